@@ -1,0 +1,2 @@
+pub mod P
+pub mod Others

@@ -1,0 +1,33 @@
+-- "One fit, followed down": the window, keeping, distances and assembly, one after the other.
+use Rattle.rules.specs.Words.{List, ℕ, Found}
+use Rattle.rules.specs.Float.{_⊗_}
+use Rattle.rules.specs.Forms.{Fit, tabulate, cells, area, leaves}
+use Rattle.rules.specs.Calls.{FitCall}
+use Rattle.rules.specs.Refusals.{firstFitting, fitTable}
+use Rattle.rules.specs.Model.{Fitted}
+use Rattle.rules.specs.Window.{window, chromaAt, fitted}
+use Rattle.rules.specs.Keeping.{cover, keptModels}
+use Rattle.rules.specs.Distances.{distances}
+use Rattle.rules.specs.Assembly.{totalsFit, assembled}
+
+-- the window's answer at each luma pixel, "with limit squared"
+unfoldable pub rough : FitCall → List Fitted
+rough c =
+    let search : ℕ → Found = λ at. window (c .parts) at (c .limit ⊗ c .limit) (c .evidence) (c .strict) in
+    tabulate (area (c .size)) (λ at. fitted (c .parts) (chromaAt (c .size .0) (c .ratio) at) (search at))
+
+-- what is kept of it
+unfoldable pub fitModels : FitCall → List Fitted
+fitModels c = keptModels (rough c) (c .size)
+
+-- the cover, with its distances
+unfoldable pub fitCover : FitCall → List ℕ
+fitCover c = distances (cover (rough c) (c .size)) (cells (c .size .0))
+
+-- "8, found before any write" of the outputs
+unfoldable pub fitRefusal : FitCall → ℕ
+fitRefusal c = firstFitting (fitTable c (totalsFit (fitModels c) (c .size) (c .ratio)))
+
+-- what fit stores; its work slices "are left free after acceptance and after 8", and unchanged by other refusals
+unfoldable pub fitLeaves : FitCall → Fit
+fitLeaves c = leaves (fitRefusal c) (assembled (fitModels c) (fitCover c) (c .size) (c .ratio)) (c .output)

@@ -1,0 +1,91 @@
+// The types of the paper. What is right of them is said in specs/, heading by heading.
+
+// "a gain and an offset, a pair of floats kept together"
+pub struct Model {
+    pub gain: f32,
+    pub offset: f32,
+}
+
+// "previous, own and next; previous and own; own and next"
+pub enum Trial {
+    All,
+    PreviousOwn,
+    OwnNext,
+}
+
+// "nothing, or a model with the trial it came from"
+pub enum Found {
+    At(Model, Trial),
+    Nothing,
+}
+
+// A gain as it is stored: in 4096ths.
+pub struct Gain(pub i16);
+
+// An offset as it is stored: in 64ths.
+pub struct Offset(pub i16);
+
+// "A scene value is either lifted or left raw, one float each way"
+pub enum Scene {
+    Lifted(f32),
+    Raw(f32),
+}
+
+// What a call answers: the number of its refusal, or 0; and the count of the pixels written.
+pub struct Answer {
+    pub number: u8,
+    pub count: usize,
+}
+
+// What `empty` answers: a yes or no besides.
+pub struct Reply {
+    pub answer: Answer,
+    pub yes: bool,
+}
+
+// The Rust's tuples on the way to those answers.
+
+// Means, variances and covariance of the sums, in `model`.
+pub struct Spread {
+    pub mp: f32,
+    pub mi: f32,
+    pub vp: f32,
+    pub vi: f32,
+    pub cov: f32,
+}
+
+// A trial's model, its error on the own part, and its sixth total, in `window`.
+pub struct Best {
+    pub model: Model,
+    pub error: f32,
+    pub trial: Trial,
+    pub seen: f32,
+}
+
+// Two neighbouring entries of a row or column, and the share of the second, of `taps`.
+pub struct Taps {
+    pub first: usize,
+    pub second: usize,
+    pub share: f32,
+}
+
+// How far a pixel moves in the first frame and in the second, across and down, of `steps`.
+pub struct Steps {
+    pub fx: f32,
+    pub fy: f32,
+    pub bx: f32,
+    pub by: f32,
+}
+
+// The total and the number of the lifted values of a ring, in `scene`.
+pub struct Ring {
+    pub total: f32,
+    pub count: f32,
+}
+
+// What render sees at a moved point: the scene, whether the layer is on there, and the raw sample.
+pub struct Moved {
+    pub scene: Scene,
+    pub on: bool,
+    pub raw: f32,
+}
