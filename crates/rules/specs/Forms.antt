@@ -154,7 +154,7 @@ answer number count = record { number = number; count = cond (eqb number 0) coun
 
 -- "An accepted call answers number 0, with count 0 unless a count is named"
 abbrev pub uncounted : (number : ℕ) → Answer
-uncounted number = answer number 0
+uncounted number = record { number = number; count = 0 }
 
 -- "Lent slices are unchanged" by a refusal: the new where the number is 0, else the old
 abbrev pub leaves : {A : Type 0} → (number : ℕ) → (new old : A) → A

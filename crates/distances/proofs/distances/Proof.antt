@@ -1,0 +1,43 @@
+-- `distances::distances` meets its contract. Assumes nothing.
+use mathlib.Core.Path.{refl, sym, ap}
+use Prim.Native.Nat.{ℕ, _*_, _/_}
+use native.Mathlib.Nat.{div-mul-le-self}
+use native.Mathlib.Omega.{arith}
+use lib.ListN.{length}
+use borrow.Author.Needs.{needs}
+use Rattle.distances.proofs.Passes.{refused, ran}
+use Rattle.distances.proofs.distances.Statement.{statement}
+use Rattle.distances.proofs.distances.Tie as tie
+
+returns : tie.Need-returns
+returns c = refused _ _ (c .if1 .taken)
+
+div-n : tie.Need-div-n
+div-n c = search needs
+
+mul-n : tie.Need-mul-n
+mul-n c =
+    let a = c .before .before in
+    omega (arith, div-mul-le-self (length (a .args .cells .now)) (a .args .width), a .good)
+
+pass-down-requires : tie.Need-pass-down-requires
+pass-down-requires c κs = search needs
+
+pass-back-requires : tie.Need-pass-back-requires
+pass-back-requires c κs =
+    let w = c .before .before .before .before .before .before .before .args .width in
+    (omega arith, sym (ap (λ (k : ℕ). k / w * w) (c .before .before .before .pass-down .ensures .same)))
+
+same-length : tie.Need-same-length
+same-length c = search needs
+
+returns-2 : tie.Need-returns-2
+returns-2 c =
+    let a = c .before .before .before .before .before .before .before .before .before .before .args in
+    ran (a .cells .now) (a .width) _ _ (c .before .before .pass-back .last .0) (omega arith) refl (λ k. omega (arith, c .slice-known3 .given k))
+    (c .before .before .before .before .before .before .pass-down .ensures) (c .before .before .pass-back .ensures)
+
+pub distances-spec : {M : Type 1} → statement M
+distances-spec =
+    tie.close
+    (tie.spec returns div-n mul-n pass-down-requires pass-back-requires same-length returns-2)

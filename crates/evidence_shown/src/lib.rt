@@ -1,0 +1,1 @@
+// Demand 3 by example: the statements stand in specs/, their proof in proofs/.

@@ -1,0 +1,114 @@
+-- Laws of `tabulate`, `turns`, `any`, `howMany` and of the transform's `least`. Assumes nothing.
+use mathlib.Core.Path.{_≡_, refl, ap}
+use mathlib.Core.Bool.{Bool, true, false, not, cond, _||_}
+use mathlib.Core.List.{List}
+use Prim.Native.Nat.{ℕ, zero, suc, _+_, _≤_, _<_, min}
+use native.Mathlib.Omega.{arith}
+use lib.Dec.{T, ltb, nltb→le, ltb→lt}
+use lib.ListN.{length, getD, List·getD-eq-default}
+use Rattle.rules.specs.Forms.{turns, tabulate, any, howMany}
+use Rattle.rules.specs.Distances.{least, whole, nearestTo, distances}
+
+-- ---- tabulate
+
+pub length-tabulate : {A : Type 0} (n : ℕ) (f : ℕ → A) → length (tabulate n f) ≡ n
+unfolding tabulate
+length-tabulate zero f = refl
+length-tabulate (suc n) f = ap suc (length-tabulate n (λ k. f (suc k)))
+
+pub getD-tabulate : {A : Type 0} (n : ℕ) (f : ℕ → A) (k : ℕ) (d : A) → k < n → getD (tabulate n f) k d ≡ f k
+unfolding tabulate
+getD-tabulate zero f k d h = absurd (omega arith)
+getD-tabulate (suc n) f zero d h = refl
+getD-tabulate (suc n) f (suc k) d h = getD-tabulate n (λ j. f (suc j)) k d (omega arith)
+
+pub getD-beyond : {A : Type 0} (n : ℕ) (f : ℕ → A) (k : ℕ) (d : A) → n ≤ k → getD (tabulate n f) k d ≡ d
+getD-beyond n f k d h =
+    let l : length (tabulate n f) ≤ k = rw (length-tabulate n f) h in
+    List·getD-eq-default (tabulate n f) d l
+
+-- a fact of two tables at place k: it holds of the entries, and of two defaults
+pub tabulate-both : {A B : Type 0} (R : A → B → Type 0) (n : ℕ) (f : ℕ → A) (g : ℕ → B) (a : A) (b : B)
+    → (k : ℕ) → (k < n → R (f k) (g k)) → R a b → R (getD (tabulate n f) k a) (getD (tabulate n g) k b)
+tabulate-both R n f g a b k inside default = go (ltb k n) (ltb→lt k n) (nltb→le k n)
+  where
+    go : (t : Bool) → (T t → k < n) → (T (not t) → n ≤ k) → R (getD (tabulate n f) k a) (getD (tabulate n g) k b)
+    go true h l = rw (getD-tabulate n f k a (h tt), getD-tabulate n g k b (h tt)) (inside (h tt))
+    go false h l = rw (getD-beyond n f k a (l tt), getD-beyond n g k b (l tt)) default
+
+-- ---- turns, any and howMany
+
+-- a fact of two states that each turn keeps
+pub turns-both : {S S' : Type 0} (R : S → S' → Type 0) (step : ℕ → S → S) (step' : ℕ → S' → S') (n : ℕ)
+    → ((k : ℕ) → k < n → (a : S) (b : S') → R a b → R (step k a) (step' k b)) → (a : S) (b : S') → R a b → R (turns step n a) (turns step' n b)
+unfolding turns
+turns-both R step step' zero h a b r = r
+turns-both R step step' (suc n) h a b r = h n (omega arith) _ _ (turns-both R step step' n (λ k below. h k (omega arith)) a b r)
+
+pub any-mono : (n : ℕ) (p q : ℕ → Bool) → ((k : ℕ) → T (p k) → T (q k)) → T (any n p) → T (any n q)
+unfolding any
+any-mono n p q h = turns-both (λ a b. T a → T b) _ _ n (λ k below a b r. more a (p k) b (q k) r (h k)) false false (λ t. t)
+  where
+    more : (a b a' b' : Bool) → (T a → T a') → (T b → T b') → T (a || b) → T (a' || b')
+    more a b true b' f g t = tt
+    more true b false b' f g t = absurd (f tt)
+    more false b false b' f g t = g t
+
+-- one more, if a test is passed
+pub one-mono : (a b : Bool) (m n : ℕ) → (T a → T b) → m ≤ n → cond a (m + 1) m ≤ cond b (n + 1) n
+one-mono true true m n f h = omega arith
+one-mono true false m n f h = absurd (f tt)
+one-mono false true m n f h = omega arith
+one-mono false false m n f h = h
+
+pub howMany-mono : (n : ℕ) (p q : ℕ → Bool) → ((k : ℕ) → T (p k) → T (q k)) → howMany n p ≤ howMany n q
+unfolding howMany
+howMany-mono n p q h = turns-both (λ a b. a ≤ b) _ _ n (λ k below a b. one-mono (p k) (q k) a b (h k)) 0 0 (omega arith)
+
+-- ---- the transform
+
+min-mono : (a b c d : ℕ) → a ≤ b → c ≤ d → min a c ≤ min b d
+min-mono a b c d h k = omega arith
+
+pub least-mono : (f g : ℕ → ℕ) (n : ℕ) → ((k : ℕ) → f k ≤ g k) → least f n ≤ least g n
+unfolding least
+least-mono f g zero h = omega arith
+least-mono f g (suc n) h = min-mono (least f n) (least g n) (f n) (g n) (least-mono f g n h) (h n)
+
+pub least-small : (f : ℕ → ℕ) (n : ℕ) → least f n ≤ 255
+unfolding least
+least-small f zero = omega arith
+least-small f (suc n) = under (least f n) (f n) (least-small f n)
+  where
+    under : (a b : ℕ) → a ≤ 255 → min a b ≤ 255
+    under a b h = omega arith
+
+-- the cells grow with the old ones
+pub distances-mono : (old old' : List ℕ) (width : ℕ) → length old ≡ length old' → ((k : ℕ) → getD old k 0 ≤ getD old' k 0)
+    → (k : ℕ) → getD (distances old width) k 0 ≤ getD (distances old' width) k 0
+unfolding distances nearestTo
+distances-mono old old' width same h k =
+    rw same
+    (tabulate-both (λ a b. a ≤ b) (length old') _ _ 0 0 k
+    (λ below. pick (ltb k (whole old' width)) _ _ _ _
+    (least-mono _ _ (whole old' width) (λ i. more _ _ _ (h i))) (h k))
+    (omega arith))
+  where
+    more : (a b c : ℕ) → a ≤ b → a + c ≤ b + c
+    more a b c l = omega arith
+
+    pick : (t : Bool) (a b a' b' : ℕ) → a ≤ a' → b ≤ b' → cond t a b ≤ cond t a' b'
+    pick true a b a' b' l m = l
+    pick false a b a' b' l m = m
+
+-- and stay small
+pub distances-small : (old : List ℕ) (width : ℕ) → ((k : ℕ) → getD old k 0 ≤ 255) → (k : ℕ) → getD (distances old width) k 0 ≤ 255
+unfolding distances nearestTo
+distances-small old width h k =
+    tabulate-both {B = ℕ} (λ a b. a ≤ 255) (length old) _ (λ j. 0) 0 0 k
+    (λ below. pick (ltb k (whole old width)) _ _ (least-small _ (whole old width)) (h k))
+    (omega arith)
+  where
+    pick : (t : Bool) (a b : ℕ) → a ≤ 255 → b ≤ 255 → cond t a b ≤ 255
+    pick true a b l m = l
+    pick false a b l m = m

@@ -1,0 +1,1 @@
+// Laws of the words that the rules are written in: proofs/.

@@ -1,0 +1,142 @@
+// Byte planes: the tests of sizes, ratios, pitches and lengths, and one dot of a pass.
+ghost use mathlib.Core.Path.{_≡_};
+ghost use mathlib.Core.Bool.{_&&_, _||_, not, cond};
+ghost use Prim.Native.Nat.{_+_, _-_, _*_, _/_, _%_, _<_, _≤_, _^_};
+ghost use lib.Dec.{leb, eqb};
+ghost use lib.ListN.{length};
+ghost use Rattle.rules.specs.Domain.{isSize, isRatio, isPitch};
+ghost use Rattle.plane.specs.Done.{Stamped};
+
+// What a rule does to one pixel: it keeps its byte, or a byte is put in its place.
+pub enum Dot {
+    Keep,
+    Put(u8),
+}
+
+// One dot of a pass: puts it at place k of the output, and counts it.
+pub fn stamp(output: &mut [u8], k: usize, d: Dot, count: usize) -> usize
+    requires { ⌜ (k < length (now output)) × (count < 2 ^ 63) ⌝ }
+    ensures { λ r. ⌜ Stamped (now (output .entry)) k d count (now (output .exit)) r ⌝ }
+{
+    match d {
+        Dot::Put(b) => {
+            output[k] = b;
+            count + 1
+        }
+        Dot::Keep => count,
+    }
+}
+
+// A width or a height.
+pub fn sized(n: usize) -> bool
+    ensures { λ r. ⌜ r ≡ isSize n ⌝ }
+{
+    1 <= n && n <= 4096
+}
+
+// A pitch that rows of this width can have.
+pub fn pitched(pitch: usize, width: usize) -> bool
+    ensures { λ r. ⌜ r ≡ isPitch pitch width ⌝ }
+{
+    width <= pitch && pitch <= 65536
+}
+
+// Two tests, or three, joined without a branch of the caller's own.
+pub fn both(a: bool, b: bool) -> bool
+    ensures { λ r. ⌜ r ≡ (a && b) ⌝ }
+{
+    a && b
+}
+
+pub fn all(a: bool, b: bool, c: bool) -> bool
+    ensures { λ r. ⌜ r ≡ (a && b && c) ⌝ }
+{
+    both(both(a, b), c)
+}
+
+// A row of a table of refusals: its number unless all is right, else what the rows after it say.
+pub fn unless(number: u8, right: bool, rest: u8) -> u8
+    ensures { λ r. ⌜ r ≡ cond (not right) number rest ⌝ }
+{
+    if right { rest } else { number }
+}
+
+// The quotient, 0 for a divisor 0.
+pub fn divided(n: usize, by: usize) -> usize
+    ensures { λ r. ⌜ r ≡ n / by ⌝ }
+{
+    if by == 0 { 0 } else { n / by }
+}
+
+// The divisor goes into n, and 0 into 0 alone.
+pub fn divides(by: usize, n: usize) -> bool
+    ensures { λ r. ⌜ r ≡ eqb (n % by) 0 ⌝ }
+{
+    if by == 0 { n == 0 } else { n % by == 0 }
+}
+
+// One of the three ratios.
+pub fn one_of(ratio: usize) -> bool
+    ensures { λ r. ⌜ r ≡ (eqb ratio 1 || eqb ratio 2 || eqb ratio 4) ⌝ }
+{
+    if ratio == 1 {
+        true
+    } else {
+        if ratio == 2 { true } else { ratio == 4 }
+    }
+}
+
+// A ratio of these sizes.
+pub fn ratioed(ratio: usize, width: usize, height: usize) -> bool
+    ensures { λ r. ⌜ r ≡ isRatio ratio (width, height) ⌝ }
+{
+    all(one_of(ratio), divides(ratio, width), divides(ratio, height))
+}
+
+// A slice of this length has so many rows a pitch apart and `more` entries after them. No product is made.
+pub fn holds(size: usize, rows: usize, pitch: usize, more: usize) -> bool
+    ensures { λ r. ⌜ r ≡ leb (rows * pitch + more) size ⌝ }
+{
+    if size < more {
+        false
+    } else {
+        if pitch == 0 {
+            true
+        } else {
+            rows <= (size - more) / pitch
+        }
+    }
+}
+
+// A byte plane's length.
+pub fn planed(size: usize, pitch: usize, width: usize, height: usize) -> bool
+    ensures { λ r. ⌜ r ≡ leb ((height - 1) * pitch + width) size ⌝ }
+{
+    if height == 0 {
+        width <= size
+    } else {
+        holds(size, height - 1, pitch, width)
+    }
+}
+
+// The length of a slice of a layer: two numbers for each entry of its rows.
+pub fn layered(size: usize, pitch: usize, rows: usize) -> bool
+    ensures { λ r. ⌜ r ≡ leb (2 * (pitch * rows)) size ⌝ }
+{
+    holds(size / 2, rows, pitch, 0)
+}
+
+// The ratio of a plane of a layer.
+pub fn plane_ratio(ratio: usize, plane: usize) -> usize
+    ensures { λ r. ⌜ r ≡ cond (eqb plane 0) 1 ratio ⌝ }
+{
+    if plane == 0 { 1 } else { ratio }
+}
+
+// The place of an entry: of rows a pitch apart, this row and column.
+pub fn place(row: usize, pitch: usize, col: usize) -> usize
+    requires { ⌜ (row ≤ 65536) × (pitch ≤ 65536) × (col ≤ 65536) ⌝ }
+    ensures { λ r. ⌜ r ≡ row * pitch + col ⌝ }
+{
+    row * pitch + col
+}
