@@ -13,9 +13,9 @@ use lib.Ieee.Fits.{and-i, and-l, and-r}
 use Rattle.rules.specs.declared.Best.{Best}
 use Rattle.rules.specs.declared.Found.{Found}
 use Rattle.rules.specs.declared.Found.the-variants.{At, Nothing}
+use Rattle.rules.specs.Forms.{Parts, any, cells, area}
 use Rattle.rules.specs.Literals.{1·7, 4·0}
 use Rattle.rules.specs.Float.{_⊕_, _⊗_, _≺_, _≼_, abs}
-use Rattle.rules.specs.Forms.{Parts, any, cells, area}
 use Rattle.rules.specs.Calls.{FitCall}
 use Rattle.rules.specs.Model.{Fitted, unfitted, plain, set, isPlain}
 use Rattle.rules.specs.Window.{found, pick, window, fitted}

@@ -15,9 +15,9 @@ use lib.Ieee.Fits.{and-i, and-l, and-r}
 use Rattle.rules.specs.declared.Gain.{Gain}
 use Rattle.rules.specs.declared.Offset.{Offset}
 use Rattle.rules.specs.declared.Model.{Model}
+use Rattle.rules.specs.Forms.{Layer, cells, area}
 use Rattle.rules.specs.Literals.{64·0, 4096·0}
 use Rattle.rules.specs.Float.{stored, storedOf, rounded, negative}
-use Rattle.rules.specs.Forms.{Layer, cells, area}
 use Rattle.rules.specs.Model.{Fitted, plain, isPlain}
 use Rattle.rules.specs.Keeping.{modelOf}
 use Rattle.rules.specs.Assembly.{storedGain, storedOffset, lumaEntry, cellEntry, assembled}

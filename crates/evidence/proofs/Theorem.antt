@@ -19,9 +19,9 @@ use Rattle.rules.specs.declared.Offset.{Offset}
 use Rattle.rules.specs.declared.Model.{Model}
 use Rattle.rules.specs.declared.Scene.{Scene}
 use Rattle.rules.specs.declared.Scene.the-variants.{Lifted}
+use Rattle.rules.specs.Forms.{Plane, Layer, Rule, planeRatio, planeSize, painted, counted, answer, leaves}
 use Rattle.rules.specs.Literals.{0·0, 0·2}
 use Rattle.rules.specs.Float.{_≼_, _≺_, float, abs, pixel}
-use Rattle.rules.specs.Forms.{Plane, Layer, Rule, planeRatio, planeSize, painted, counted, answer, leaves}
 use Rattle.rules.specs.Calls.{FitCall}
 use Rattle.rules.specs.Refusals.{peelRefusal, unpeelRefusal, renderRefusal}
 use Rattle.rules.specs.Model.{Fitted, unfitted}

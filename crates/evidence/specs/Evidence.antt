@@ -8,8 +8,8 @@ use lib.Signed.{leZ}
 use Rattle.rules.specs.declared.Answer.{Answer}
 use Rattle.rules.specs.declared.Gain.{Gain}
 use Rattle.rules.specs.declared.Offset.{Offset}
-use Rattle.rules.specs.Float.{_≼_}
 use Rattle.rules.specs.Forms.{Plane, Motion, Layer, Frames, Rule, cells, planeSize}
+use Rattle.rules.specs.Float.{_≼_}
 use Rattle.rules.specs.Calls.{FitCall, PeelCall, UnpeelCall, RenderCall}
 use Rattle.rules.specs.Fit.{fitRefusal, fitLeaves}
 use Rattle.rules.specs.Reading.{layerOf, cell, lumaGain, lumaOffset, byte}

@@ -8,9 +8,9 @@ use lib.ListN.{replicate}
 use lib.Ieee.{Float}
 use Rattle.rules.specs.declared.Gain.{Gain}
 use Rattle.rules.specs.declared.Offset.{Offset}
+use Rattle.rules.specs.Forms.{Part, Layer, cells, area, shrunk}
 use Rattle.rules.specs.Literals.{0·0, 1·0, 2·0, 4·0}
 use Rattle.rules.specs.Float.{float}
-use Rattle.rules.specs.Forms.{Part, Layer, cells, area, shrunk}
 use Rattle.rules.specs.Calls.{FitCall, PeelCall}
 use Rattle.rules.specs.Fit.{fitRefusal}
 use Rattle.rules.specs.Reading.{cell}

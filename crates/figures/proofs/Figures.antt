@@ -14,12 +14,12 @@ use Rattle.rules.specs.Reading.{distance, gap, gainTotal, lumaTexel, chromaTexe
 use Rattle.rules.specs.Scene.{lifted, under, gathered, point, stepped, ring, meanOr, filled, scene}
 use Rattle.rules.specs.Peel.{layered, peelRule}
 use Rattle.rules.specs.Unpeel.{relaid, unpeelRule}
+use Rattle.rules.specs.Motion.{taps, rowTaps, columnTaps, column, step, steps}
 use Rattle.rules.specs.Render.{farthest, far, timed, reach, rendered, moved, exchanged, chosen, between, base, composed, ownSteps, seen, renderRule}
-use Rattle.rules.specs.Stats.{taps, rowTaps, columnTaps, column, step, steps}
-use Rattle.rules.specs.Still.{detail, isSame, sameAt, full, byteSum, applyRule, weighed, holdRule}
+use Rattle.rules.specs.Still.{detail, isSame, sameAt, byteSum, applyRule, weighed, holdRule}
 use Rattle.rules.specs.Host.{numbers}
 use Rattle.figures.specs.P.{TheoremP}
-use Rattle.figures.specs.Others.{Beyond, AddingHalf, MarkedOnly, SizeFirst, PartialSums, Mixing, Holding, Keeping, Filling, FilledMean, Refusals, RefusedTimes, RefusedPel, RefusedPairs, RefusedTotals, Hosting}
+use Rattle.figures.specs.Others.{RefusedGrids, RefusedSteps, Beyond, AddingHalf, MarkedOnly, SizeFirst, PartialSums, Mixing, Holding, Keeping, Filling, FilledMean, Refusals, RefusedTimes, RefusedPel, RefusedPairs, RefusedTotals, Hosting}
 
 pub P : TheoremP
 unfolding Ieee.add Ieee.div Ieee.eq Ieee.isNan Ieee.le Ieee.lt Ieee.mul Ieee.ofBits Ieee.ofInt Ieee.sub Ieee.toUnsigned counted each painted scan scanRow stroke tabulate tally turns abs clamp max median min mix negative pixel rounded stored storedOf firstFitting peelRefusal unpeelRefusal isPlain set total distances least nearestTo chromaTexel distance gainTotal gap lumaTexel mixedModel modelAt sample texel filled gathered lifted meanOr point ring scene stepped under layered peelRule relaid unpeelRule column step
@@ -50,7 +50,7 @@ unfolding Ieee.add Ieee.div Ieee.isNan Ieee.le Ieee.lt Ieee.mul Ieee.ofBits Ieee
 mixing = (refl, refl)
 
 pub holding : Holding
-unfolding Ieee.add Ieee.div Ieee.eq Ieee.isNan Ieee.le Ieee.lt Ieee.mul Ieee.ofBits Ieee.ofInt Ieee.sub any each howMany painted scan scanRow stroke tabulate turns abs clamp max min mix firstFitting holdRefusal blend error isPlain left line model same set spread trust best better chromaOffset fitted found ownSame pick total tried window cover kept marks near rough column step byteSum detail full holdRule isSame sameAt weighed
+unfolding Ieee.add Ieee.div Ieee.eq Ieee.isNan Ieee.le Ieee.lt Ieee.mul Ieee.ofBits Ieee.ofInt Ieee.sub any each howMany painted scan scanRow stroke tabulate turns abs clamp max min mix firstFitting holdRefusal blend error isPlain left line model same set spread trust best better chromaOffset fitted found ownSame pick total tried window cover kept marks near rough column step byteSum detail holdRule isSame sameAt weighed
 holding = refl
 
 pub keeping : Keeping
@@ -76,6 +76,14 @@ refusedTimes = (refl, refl, refl)
 pub refusedPel : RefusedPel
 unfolding Ieee.add Ieee.div Ieee.eq Ieee.isNan Ieee.le Ieee.lt Ieee.mul Ieee.ofBits Ieee.ofInt Ieee.sub Ieee.toUnsigned counted each scan scanRow tally turns abs clamp max median min mix negative pixel rounded firstFitting renderRefusal isPlain total chromaTexel distance gainTotal gap lumaTexel mixedModel modelAt sample texel filled gathered lifted meanOr point ring scene stepped under layered base between chosen composed exchanged far farthest moved ownSteps reach renderRule rendered seen timed column columnTaps rowTaps step steps taps
 refusedPel = refl
+
+pub refusedGrids : RefusedGrids
+unfolding Ieee.add Ieee.div Ieee.eq Ieee.isNan Ieee.le Ieee.lt Ieee.mul Ieee.ofBits Ieee.ofInt Ieee.sub Ieee.toUnsigned counted each scan scanRow tally turns abs clamp max median min mix negative pixel rounded firstFitting renderRefusal isPlain total chromaTexel distance gainTotal gap lumaTexel mixedModel modelAt sample texel filled gathered lifted meanOr point ring scene stepped under layered base between chosen composed exchanged far farthest moved ownSteps reach renderRule rendered seen timed column columnTaps rowTaps step steps taps
+refusedGrids = (refl, refl)
+
+pub refusedSteps : RefusedSteps
+unfolding each firstFitting holdRefusal
+refusedSteps = (refl, refl, refl, refl)
 
 pub refusedPairs : RefusedPairs
 unfolding Ieee.add Ieee.div Ieee.eq Ieee.isNan Ieee.le Ieee.lt Ieee.mul Ieee.ofBits Ieee.ofInt Ieee.sub all any howMany scan scanRow tabulate turns abs clamp max min mix negative rounded stored storedOf firstFitting fitTable blend error isPlain left line model same set spread trust best better chromaOffset fitted found ownSame pick total tried window cover kept keptModels marks near chromaTotal totalsFit fitModels fitRefusal rough column step

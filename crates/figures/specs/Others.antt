@@ -4,15 +4,15 @@ use mathlib.Core.Bool.{true, false, cond}
 use mathlib.Core.List.{List, [], _∷_, _++_}
 use Prim.Native.Nat.{ℕ}
 use lib.Dec.{eqb}
-use lib.IntN.{pos, negsuc}
+use lib.IntN.{ℤ, pos, negsuc}
 use lib.ListN.{getD, replicate}
 use lib.Ieee.{Float, nan}
 use Rattle.rules.specs.declared.Answer.{Answer}
 use Rattle.rules.specs.Forms.{Plane, Part, Layer, tabulate}
 use Rattle.rules.specs.Literals.{lit, 0·0, 0·5, 1·0, 2·0, 4·0, 4096·0}
 use Rattle.rules.specs.Float.{_⊕_, cut, pixel}
-use Rattle.rules.specs.Calls.{AssembleCall, UnpeelCall, ApplyCall}
-use Rattle.rules.specs.Refusals.{distancesRefusal, emptyRefusal}
+use Rattle.rules.specs.Calls.{AssembleCall, UnpeelCall, RenderCall, ApplyCall}
+use Rattle.rules.specs.Refusals.{distancesRefusal, emptyRefusal, holdRefusal}
 use Rattle.rules.specs.Model.{Fitted, unfitted}
 use Rattle.rules.specs.Keeping.{near, kept, cover}
 use Rattle.rules.specs.Distances.{distancesLeaves}
@@ -156,17 +156,41 @@ abbrev pub RefusedTimes : Type 0
 RefusedTimes =
     (unpeelAnswer (atTime (lit 0x3fc0_0000)) ≡ refused 6) × (unpeelAnswer (atTime nan) ≡ refused 6) × (unpeelLeaves (atTime nan) ≡ 40 ∷ [])
 
--- "pel 0"
-abbrev pub RefusedPel : Type 0
-RefusedPel =
-    renderAnswer (record {
+-- a render of that layer's one pixel, with no motion value or with one in each field
+abbrev pub renderOne : (field : List ℕ) → (width height : ℕ) → (pel : ℤ) → RenderCall
+renderOne field width height pel =
+    record {
       layer = onePixel (pos 8192) (pos 640) (pos 1);
       plane = 0;
       output = one 7;
       frames = record { first = one 110; second = one 100; time = 0·5 };
-      motion = record { forward = (1024 ∷ [], 1024 ∷ []); backward = (1024 ∷ [], 1024 ∷ []); grid = (1, 1); block = (pos 8, pos 8); origin = (pos 0, pos 0); pel = pos 0 };
+      motion = record {
+        forward = (field, field);
+        backward = (field, field);
+        grid = (width, height);
+        block = (pos 8, pos 8);
+        origin = (pos 0, pos 0);
+        pel = pel;
+      };
       algo = pos 0;
-    }) ≡ refused 5
+    }
+
+-- "pel 0"
+abbrev pub RefusedPel : Type 0
+RefusedPel = renderAnswer (renderOne (1024 ∷ []) 1 1 (pos 0)) ≡ refused 5
+
+-- lengths come before numbers, and no product wraps: a grid of 2^32 by 2^32 has 2^64 blocks, one of 0 by 5 none
+abbrev pub RefusedGrids : Type 0
+RefusedGrids = (renderAnswer (renderOne [] 4294967296 4294967296 (pos 1)) ≡ refused 4) × (renderAnswer (renderOne [] 0 5 (pos 1)) ≡ refused 5)
+
+-- "a mask width or mask length with no whole step of 1..8": 3 cells over 2 pixels, 9 over 1, none
+abbrev pub heldBy : (width : ℕ) → (mask : List ℕ) → (maskWidth : ℕ) → ℕ
+heldBy width mask maskWidth =
+    let two : Plane = record { bytes = 1 ∷ 2 ∷ []; pitch = 2 } in
+    holdRefusal (record { output = two; held = two; size = (width, 1); mask = record { bytes = mask; width = maskWidth } })
+
+abbrev pub RefusedSteps : Type 0
+RefusedSteps = (heldBy 2 (replicate 3 0) 3 ≡ 2) × (heldBy 1 (replicate 9 0) 9 ≡ 2) × (heldBy 1 [] 0 ≡ 2) × (heldBy 2 (replicate 4 0) 4 ≡ 0)
 
 -- "own pairs 0"
 abbrev pub noPart : Part

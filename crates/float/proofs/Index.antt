@@ -6,8 +6,8 @@ use lib.IntN.{pos}
 use lib.Dec.{T}
 use lib.Ieee.{Float, nan, inf, fin, binary32, lt, eq, le, ne, isNan, ofInt, ofBits, toUnsigned}
 use lib.Ieee.Exact.{HasValue}
-use Rattle.rules.specs.Float.{max as maxOf, clamp as clampOf}
 use Rattle.rules.specs.Literals.{lit}
+use Rattle.rules.specs.Float.{max as maxOf, clamp as clampOf}
 use Rattle.float.proofs.Basics.{ne-self}
 use Rattle.laws.proofs.Order.{or-r, le-of-not-lt}
 use Rattle.laws.proofs.Whole.{cut-le, int-value}

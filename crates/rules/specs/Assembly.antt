@@ -13,7 +13,7 @@ use Rattle.rules.specs.Keeping.{modelOf}
 abbrev pub storedGain : Float → Gain
 storedGain gain = record { 0 = stored gain 4096·0 }
 
--- and so is an offset
+-- an offset, in 64ths
 abbrev pub storedOffset : Float → Offset
 storedOffset offset = record { 0 = stored offset 64·0 }
 

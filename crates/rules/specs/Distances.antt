@@ -14,7 +14,7 @@ unfoldable pub least : (ℕ → ℕ) → (n : ℕ) → ℕ
 least f zero = 255
 least f (suc n) = min (least f n) (f n)
 
--- how many of the cells stand "in the complete rows of the given width"
+-- how many of the cells stand in "the complete rows of the given width"
 abbrev pub whole : List ℕ → (width : ℕ) → ℕ
 whole old width = length old / width * width
 

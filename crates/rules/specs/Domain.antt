@@ -1,10 +1,8 @@
--- "Domain": what sizes, pitches, lengths and settings must be.
-use Rattle.rules.specs.Words.{Bool, false, _&&_, _||_, List, ℕ, _+_, _-_, _*_, _/_, _%_, leb, eqb, ℤ, pos, negsuc, negℤ, leZ, length, Float}
-use Rattle.rules.specs.Forms.{Plane, Motion, Part, Fit, Layer, Mask, cells, area, shrunk, each}
+-- "Domain": what sizes, pitches, lengths and settings must be; lengths are "reckoned in whole numbers, never wrapped".
+use Rattle.rules.specs.Words.{Bool, _&&_, _||_, List, ℕ, _+_, _-_, _*_, _/_, _%_, leb, eqb, ℤ, pos, negℤ, leZ, length, Float}
+use Rattle.rules.specs.Forms.{Plane, Motion, Part, Fit, Layer, Mask, cells, area, shrunk, each, isNumber}
 use Rattle.rules.specs.Literals.{0·0, 1·0}
 use Rattle.rules.specs.Float.{within}
-
--- ---- sizes, pitches and lengths, "reckoned in whole numbers, never wrapped"
 
 -- "Width and height 1 to 4096."
 abbrev pub isSize : ℕ → Bool
@@ -78,8 +76,7 @@ spans lo hi z = leZ lo z && leZ z hi
 
 -- "pel 1, 2 or 4"
 abbrev pub isPel : ℤ → Bool
-isPel (pos n) = eqb n 1 || eqb n 2 || eqb n 4
-isPel (negsuc n) = false
+isPel z = isNumber z 1 || isNumber z 2 || isNumber z 4
 
 -- "Motion grid sides 1 to 4096, block sides 1 to 128, origins -4096 to 4096, pel 1, 2 or 4."
 abbrev pub motionNumbers : Motion → Bool
@@ -92,7 +89,7 @@ motionNumbers m =
 abbrev pub isTime : Float → Bool
 isTime t = within t 0·0 1·0
 
--- "a whole step of 1..8" from one side to another
+-- a "whole step of 1..8" from one side to another
 abbrev pub isStep : (side whole : ℕ) → Bool
 isStep side whole = eqb (side * (whole / side)) whole && leb 1 (whole / side) && leb (whole / side) 8
 

@@ -1,5 +1,5 @@
 -- "One fit, followed down": the window, keeping, distances and assembly, one after the other.
-use Rattle.rules.specs.Words.{List, ℕ, Found}
+use Rattle.rules.specs.Words.{Bool, _||_, List, ℕ, eqb, Found}
 use Rattle.rules.specs.Float.{_⊗_}
 use Rattle.rules.specs.Forms.{Fit, tabulate, cells, area, leaves}
 use Rattle.rules.specs.Calls.{FitCall}
@@ -28,6 +28,10 @@ fitCover c = distances (cover (rough c) (c .size)) (cells (c .size .0))
 unfoldable pub fitRefusal : FitCall → ℕ
 fitRefusal c = firstFitting (fitTable c (totalsFit (fitModels c) (c .size) (c .ratio)))
 
--- what fit stores; its work slices "are left free after acceptance and after 8", and unchanged by other refusals
+-- what fit stores
 unfoldable pub fitLeaves : FitCall → Fit
 fitLeaves c = leaves (fitRefusal c) (assembled (fitModels c) (fitCover c) (c .size) (c .ratio)) (c .output)
+
+-- "fit's work slices are left free after acceptance and after 8": by every other number they are unchanged
+abbrev pub freesWork : (number : ℕ) → Bool
+freesWork number = eqb number 0 || eqb number 8

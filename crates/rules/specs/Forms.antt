@@ -1,5 +1,5 @@
 -- "Rust forms and their stand-ins": the Rust's structs as records, and the words for going through counts, lists and planes.
-use Rattle.rules.specs.Words.{Bool, true, false, cond, _&&_, _||_, List, [], _∷_, ℕ, zero, suc, _+_, _-_, _*_, _/_, eqb, ℤ, getD, set, Float, Answer}
+use Rattle.rules.specs.Words.{Bool, true, false, cond, _&&_, _||_, List, [], _∷_, ℕ, zero, suc, _+_, _-_, _*_, _/_, eqb, ℤ, pos, negsuc, getD, set, Float, Answer}
 use Prim.Native.Nat.{max}
 
 -- ---- the Rust's structs; a pair is across and down, or planes 1 and 2, or luma and chroma
@@ -24,7 +24,7 @@ pub record Pair : Type 0 where
   pub second : Plane × Plane × Plane
   pub motion : Motion
 
--- a part, the Rust's `Stats`: "six f32 sums per luma pixel, two per chroma pixel in a slice for each chroma plane", and its pairs
+-- a part, the Rust's `Stats`: "six f32 sums per luma pixel", "two per chroma pixel in a slice for each chroma plane", and its pairs
 pub record Part : Type 0 where
   pub luma : List Float
   pub chroma : List Float × List Float
@@ -112,6 +112,11 @@ cells n = (n + 7) / 8
 -- how far apart two numbers are
 abbrev pub apart : ℕ → ℕ → ℕ
 apart a b = max (a - b) (b - a)
+
+-- whether z is the number n
+abbrev pub isNumber : ℤ → ℕ → Bool
+isNumber (pos a) n = eqb a n
+isNumber (negsuc a) n = false
 
 -- ---- a pass over a plane, and the rule that it follows
 

@@ -15,6 +15,7 @@ pub mod Reading
 pub mod Scene
 pub mod Peel
 pub mod Unpeel
+pub mod Motion
 pub mod Render
 pub mod Stats
 pub mod Still

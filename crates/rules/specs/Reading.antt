@@ -1,10 +1,10 @@
 -- "Reading": what a lent layer and a byte plane hold at a pixel, and between pixels.
-use Rattle.rules.specs.Words.{Bool, false, cond, not, _&&_, ℕ, _+_, _-_, _*_, _/_, eqb, ℤ, pos, negsuc, getD, Float, Reply, Model, Gain, Offset}
+use Rattle.rules.specs.Words.{Bool, false, cond, not, _&&_, ℕ, _+_, _-_, _*_, _/_, eqb, ℤ, pos, getD, Float, Reply, Model, Gain, Offset}
 use Prim.Native.Nat.{min}
 use lib.Ieee as Ieee
 use Rattle.rules.specs.Literals.{0·0, 8·0, 64·0, 4096·0}
-use Rattle.rules.specs.Float.{_⊕_, _⊖_, _⊗_, _⊘_, float, signed, cut, mix}
-use Rattle.rules.specs.Forms.{Plane, Fit, Layer, planeRatio, planeSize, all, scan, cells, answer}
+use Rattle.rules.specs.Float.{_⊕_, _⊖_, _⊗_, _⊘_, float, signed, cut, clamp, mix}
+use Rattle.rules.specs.Forms.{Plane, Fit, Layer, planeRatio, planeSize, all, scan, cells, isNumber, uncounted}
 use Rattle.rules.specs.Refusals.{emptyRefusal}
 
 -- the layer that fit stored, the Rust's `Fit::layer`: its own pitches are its rows' widths
@@ -26,20 +26,13 @@ distance l plane x y =
 unfoldable pub gap : Layer → (plane x y : ℕ) → Float
 gap l plane x y = signed (distance l plane x y) ⊗ 8·0 ⊖ 8·0
 
--- whether a stored number is 0
-abbrev pub isZero : ℤ → Bool
-isZero (pos n) = eqb n 0
-isZero (negsuc n) = false
-
 -- "`empty`: no cell is 0."
 unfoldable pub empty : Layer → Bool
-empty l = all (cells (l .size .1)) (λ y. all (cells (l .size .0)) (λ x. not (isZero (cell l x y))))
+empty l = all (cells (l .size .1)) (λ y. all (cells (l .size .0)) (λ x. not (isNumber (cell l x y) 0)))
 
 -- "`empty` adds a yes or no, no when refused"
 abbrev pub emptyAnswer : Layer → Reply
-emptyAnswer l = record { answer = answer (emptyRefusal l) 0; yes = cond (eqb (emptyRefusal l) 0) (empty l) false }
-
--- ---- models
+emptyAnswer l = record { answer = uncounted (emptyRefusal l); yes = cond (eqb (emptyRefusal l) 0) (empty l) false }
 
 -- the stored gain of luma pixel (x, y)
 abbrev pub lumaGain : Layer → (x y : ℕ) → Gain
@@ -83,6 +76,10 @@ mixModels a b t = record { gain = mix (a .gain) (b .gain) t; offset = mix (a .of
 abbrev pub after : (k size : ℕ) → ℕ
 after k size = min (k + 1) (size - 1)
 
+-- a coordinate held to the plane
+abbrev pub heldTo : (x : Float) → (size : ℕ) → Float
+heldTo x size = clamp x 0·0 (float (size - 1))
+
 -- what is left of x beyond the whole number below it
 abbrev pub fraction : Float → Float
 fraction x = x ⊖ float (cut x)
@@ -98,8 +95,6 @@ mixedModel l plane x y =
 unfoldable pub modelAt : Layer → (plane : ℕ) → (x y : Float) → Model
 modelAt l plane x y =
     cond (Ieee.eq (fraction x) 0·0 && Ieee.eq (fraction y) 0·0) (texel l plane (cut x) (cut y)) (mixedModel l plane x y)
-
--- ---- bytes
 
 -- the byte of pixel (x, y)
 abbrev pub byte : Plane → (x y : ℕ) → ℕ

@@ -6,7 +6,7 @@ use Rattle.rules.specs.Forms.{Plane, Motion, Pair, Part, Layer, area, sh
 use Rattle.rules.specs.Calls.{StatsCall, FitCall, AssembleCall, DistancesCall, PeelCall, UnpeelCall, RenderCall, MaskCall, ApplyCall, HoldCall}
 use Rattle.rules.specs.Domain.{areSizes, isRatio, havePitches, haveLengths, areSums, isFit, areModels, isCover, layerPitches, layerLengths, motionLengths, motionNumbers, isTime, areSteps}
 
--- a row: the number, and whether it fits; where a number has several tests, each has a row
+-- a row: the number, and whether it fits; a number may have several rows, and a row several tests
 infix 20 _unless_
 abbrev pub _unless_ : ℕ → (right : Bool) → ℕ × Bool
 number unless right = (number, not right)
@@ -15,7 +15,7 @@ number unless right = (number, not right)
 abbrev pub Table : Type 0
 Table = List (ℕ × Bool)
 
--- "the first fitting number", 0 where none fits
+-- the first number that fits, 0 where none does
 unfoldable pub firstFitting : Table → ℕ
 firstFitting [] = 0
 firstFitting (row ∷ rest) = cond (row .1) (row .0) (firstFitting rest)

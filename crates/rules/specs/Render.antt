@@ -1,15 +1,15 @@
 -- "Render": the layer laid on a frame made between two others.
-use Rattle.rules.specs.Words.{Bool, true, false, cond, not, _&&_, _||_, List, [], _∷_, ℕ, eqb, ℤ, pos, negsuc, Float, Answer, Model, Steps, Moved, Scene, Lifted, Raw}
+use Rattle.rules.specs.Words.{Bool, true, false, cond, not, _&&_, _||_, List, [], _∷_, ℕ, ℤ, Float, Answer, Model, Steps, Moved, Scene, Lifted, Raw}
 use Prim.Native.Nat as Nat
 use Rattle.rules.specs.Literals.{0·0001, 0·01, 0·2, 1·0, 2·5, 16·0}
 use Rattle.rules.specs.Float.{_⊕_, _⊖_, _⊗_, _⊘_, _≺_, _≼_, float, signed, abs, max, mix, median, pixel}
-use Rattle.rules.specs.Forms.{Plane, Motion, Layer, Frames, Rule, planeRatio, planeSize, apart, painted, counted, answer, leaves}
+use Rattle.rules.specs.Forms.{Plane, Motion, Layer, Frames, Rule, planeRatio, planeSize, apart, isNumber, painted, counted, answer, leaves}
 use Rattle.rules.specs.Calls.{RenderCall}
 use Rattle.rules.specs.Refusals.{renderRefusal}
-use Rattle.rules.specs.Reading.{gap, texel, modelAt, at, sample}
-use Rattle.rules.specs.Scene.{value, isLifted, heldTo, scene}
+use Rattle.rules.specs.Reading.{gap, texel, modelAt, at, sample, heldTo}
+use Rattle.rules.specs.Scene.{value, isLifted, scene}
 use Rattle.rules.specs.Peel.{layered}
-use Rattle.rules.specs.Stats.{steps}
+use Rattle.rules.specs.Motion.{steps}
 
 -- ---- how far the layer is carried
 
@@ -33,7 +33,7 @@ timed time s =
 unfoldable pub reach : (ratio : ℕ) → Steps → Float
 reach ratio s = max (max (max (abs (s .fx)) (abs (s .fy))) (abs (s .bx))) (abs (s .by)) ⊗ float ratio
 
--- "max(16, far+1)"
+-- "max(16, far+1)", and the same of reach
 abbrev pub margin : Float → Float
 margin far = max (far ⊕ 1·0) 16·0
 
@@ -63,14 +63,9 @@ exchanged mine other gap =
     (Lifted (mine .raw))
     (mine .scene)
 
--- whether algo is the number n
-abbrev pub isAlgo : ℤ → ℕ → Bool
-isAlgo (pos a) n = eqb a n
-isAlgo (negsuc a) n = false
-
 -- "`algo` 1 prefers the second, 2 the first, others the median"; a lifted side wins over a raw one, and two raw ones give the base
 unfoldable pub chosen : (first second : Scene) → (base : Float) → (algo : ℤ) → Float
-chosen (Lifted f) (Lifted b) base algo = cond (isAlgo algo 1) b (cond (isAlgo algo 2) f (median f b base))
+chosen (Lifted f) (Lifted b) base algo = cond (isNumber algo 1) b (cond (isNumber algo 2) f (median f b base))
 chosen (Lifted f) (Raw b) base algo = f
 chosen (Raw f) (Lifted b) base algo = b
 chosen (Raw f) (Raw b) base algo = base

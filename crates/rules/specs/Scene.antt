@@ -1,9 +1,9 @@
 -- "Scene": what lies under the layer at a point.
-use Rattle.rules.specs.Words.{Bool, true, false, cond, ℕ, _-_, _/_, _%_, eqb, subℕ, Float, Model, Ring, Scene, Lifted, Raw}
+use Rattle.rules.specs.Words.{Bool, true, false, cond, ℕ, _/_, _%_, eqb, subℕ, Float, Model, Ring, Scene, Lifted, Raw}
 use Rattle.rules.specs.Literals.{0·0, 0·2, 1·0, 4·0, 255·0}
 use Rattle.rules.specs.Float.{_⊕_, _⊖_, _⊗_, _⊘_, _≺_, _≼_, float, signed, abs, clamp}
 use Rattle.rules.specs.Forms.{Plane, Layer, planeRatio, planeSize, turns}
-use Rattle.rules.specs.Reading.{modelAt, sample}
+use Rattle.rules.specs.Reading.{modelAt, sample, heldTo}
 
 -- a scene value's float
 abbrev pub value : Scene → Float
@@ -26,10 +26,6 @@ lifted sample m = cond (0·2 ≼ abs (m .gain)) (Lifted (lift sample m)) (Raw sa
 -- the Rust's `under`: the scene value at a point, without filling
 unfoldable pub under : Layer → (plane : ℕ) → (raw : Plane) → (x y : Float) → Scene
 under l plane raw x y = lifted (sample raw x y (planeSize l plane)) (modelAt l plane x y)
-
--- a coordinate held to the plane
-abbrev pub heldTo : (x : Float) → (size : ℕ) → Float
-heldTo x size = clamp x 0·0 (float (size - 1))
 
 -- -1.0, 0.0 or 1.0 for 0, 1 or 2
 abbrev pub sign : ℕ → Float

@@ -29,8 +29,8 @@ sameAt first second size s x y =
     isSame change (detail first size x y) (detail second size x y) s
 
 -- the Rust's `full`: the four pixels that meet at a corner, held to the plane, are all the same
-unfoldable pub full : (first second : Plane) → (size : ℕ × ℕ) → Settings → (x y : ℕ) → Bool
-full first second size s x y =
+unfoldable pub fullCorner : (first second : Plane) → (size : ℕ × ℕ) → Settings → (x y : ℕ) → Bool
+fullCorner first second size s x y =
     let same = sameAt first second size s in
     let right = Nat.min x (size .0 - 1) in
     let below = Nat.min y (size .1 - 1) in
@@ -39,7 +39,7 @@ full first second size s x y =
 -- 1 where one of the pixel's four corners is full
 unfoldable pub still : (first second : Plane) → (size : ℕ × ℕ) → Settings → (x y : ℕ) → ℕ
 still first second size s x y =
-    let corner = full first second size s in
+    let corner = fullCorner first second size s in
     cond (corner x y || corner (x + 1) y || corner x (y + 1) || corner (x + 1) (y + 1)) 1 0
 
 -- what it leaves in the slice that it fills
@@ -49,22 +49,22 @@ maskLeaves c =
     leaves (maskRefusal c) (tabulate (area (c .size)) (λ k. mark (k % c .size .0) (k / c .size .0))) (c .still)
 
 -- how many mask cells a pixel has across
-abbrev pub across : Mask → (size : ℕ × ℕ) → ℕ
-across mask size = mask .width / size .0
+abbrev pub stepX : Mask → (size : ℕ × ℕ) → ℕ
+stepX mask size = mask .width / size .0
 
 -- and down
-abbrev pub down : Mask → (size : ℕ × ℕ) → ℕ
-down mask size = length (mask .bytes) / (mask .width * size .1)
+abbrev pub stepY : Mask → (size : ℕ × ℕ) → ℕ
+stepY mask size = length (mask .bytes) / (mask .width * size .1)
 
 -- how many in all
 abbrev pub cellsOf : Mask → (size : ℕ × ℕ) → ℕ
-cellsOf mask size = across mask size * down mask size
+cellsOf mask size = stepX mask size * stepY mask size
 
 -- "the byte sum" of pixel (x, y)
 unfoldable pub byteSum : Mask → (size : ℕ × ℕ) → (x y : ℕ) → ℕ
 byteSum mask size x y =
-    let sx = across mask size in
-    let sy = down mask size in
+    let sx = stepX mask size in
+    let sy = stepY mask size in
     scan (λ dx dy n. n + getD (mask .bytes) ((y * sy + dy) * mask .width + (x * sx + dx)) 0) (sx, sy) 0
 
 -- "Apply mixes where 10 times the byte sum exceeds 4 times the cells"
@@ -86,10 +86,10 @@ weighed kept made sum full = (kept * (full - sum) + made * sum + full / 2) / ful
 -- "where the byte sum is below full = 255 times the cells"
 unfoldable pub holdRule : (held : Plane) → Mask → (size : ℕ × ℕ) → Rule
 holdRule held mask size =
-    let whole = 255 * cellsOf mask size in
+    let full = 255 * cellsOf mask size in
     record {
-      writes = λ x y. ltb (byteSum mask size x y) whole;
-      byte = λ x y old. weighed (byte held x y) old (byteSum mask size x y) whole;
+      writes = λ x y. ltb (byteSum mask size x y) full;
+      byte = λ x y old. weighed (byte held x y) old (byteSum mask size x y) full;
     }
 
 -- what it leaves in the output

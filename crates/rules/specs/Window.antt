@@ -105,17 +105,17 @@ abbrev pub chromaAt : (width ratio at : ℕ) → ℕ
 chromaAt width ratio at = at / width / ratio * (width / ratio) + at % width / ratio
 
 -- "(second total - gain times first) / n, totalled over its trial's parts at its chroma pixel"
-unfoldable pub chromaOffset : Parts → Trial → (gain : Float) → (plane : Part → List Float) → (at : ℕ) → Float
-chromaOffset parts trial gain plane at =
-    let first = total parts trial (λ p. getD (plane p) (at * 2) nan) in
-    let second = total parts trial (λ p. getD (plane p) (at * 2 + 1) nan) in
+unfoldable pub chromaOffset : Parts → Trial → (gain : Float) → (plane : Part → List Float) → (spot : ℕ) → Float
+chromaOffset parts trial gain plane spot =
+    let first = total parts trial (λ p. getD (plane p) (spot * 2) nan) in
+    let second = total parts trial (λ p. getD (plane p) (spot * 2 + 1) nan) in
     (second ⊖ gain ⊗ first) ⊘ total parts trial count
 
--- "where nothing is found the pixel is passed over as (1, 0)"
-unfoldable pub fitted : Parts → (at : ℕ) → Found → Fitted
-fitted parts at (At m trial) =
+-- "where nothing is found the pixel is passed over as (1, 0)"; `spot` is its chroma pixel
+unfoldable pub fitted : Parts → (spot : ℕ) → Found → Fitted
+fitted parts spot (At m trial) =
     record {
       model = m;
-      chroma = (chromaOffset parts trial (m .gain) (λ p. p .chroma .0) at, chromaOffset parts trial (m .gain) (λ p. p .chroma .1) at);
+      chroma = (chromaOffset parts trial (m .gain) (λ p. p .chroma .0) spot, chromaOffset parts trial (m .gain) (λ p. p .chroma .1) spot);
     }
-fitted parts at Nothing = unfitted
+fitted parts spot Nothing = unfitted

@@ -54,7 +54,7 @@ pub struct Spread {
     pub cov: f32,
 }
 
-// A trial's model, its error on the own part, and its sixth total, in `window`.
+// A trial's model, its error on the own part, the trial, and its sixth total, in `window`.
 pub struct Best {
     pub model: Model,
     pub error: f32,
