@@ -1,0 +1,73 @@
+-- `corner::column_at` meets its contract. Assumes nothing.
+use borrow.Author.Needs.{needs}
+use Rattle.corner.proofs.column_at.Statement.{statement}
+use Rattle.corner.proofs.column_at.Tie as tie
+use Rattle.corner.proofs.column_at.Reads as reads
+use Rattle.corner.proofs.column_at.Lts as lts
+use Rattle.corner.proofs.odd.Reads as odd-reads
+use Rattle.plane.proofs.place.Reads as place-reads
+
+-- src/lib.rt:28:23
+place-requires : tie.Need-place-requires
+place-requires c κs = search needs
+
+-- src/lib.rt:28:17
+shared-slice-read-odd : tie.Need-shared-slice-read-odd
+shared-slice-read-odd c = search needs
+
+-- src/lib.rt:28:9
+odd-requires : tie.Need-odd-requires
+odd-requires c κs = search needs
+
+-- src/lib.rt:29:23
+place-requires-2 : tie.Need-place-requires-2
+place-requires-2 c κs = search needs
+
+-- src/lib.rt:29:17
+shared-slice-read-odd-2 : tie.Need-shared-slice-read-odd-2
+shared-slice-read-odd-2 c = search needs
+
+-- src/lib.rt:29:9
+odd-requires-2 : tie.Need-odd-requires-2
+odd-requires-2 c κs = search needs
+
+-- src/lib.rt:30:23
+place-requires-3 : tie.Need-place-requires-3
+place-requires-3 c κs = search needs
+
+-- src/lib.rt:30:17
+shared-slice-read-odd-3 : tie.Need-shared-slice-read-odd-3
+shared-slice-read-odd-3 c = search needs
+
+-- src/lib.rt:30:9
+odd-requires-3 : tie.Need-odd-requires-3
+odd-requires-3 c κs = search needs
+
+-- src/lib.rt:24:1
+returns : tie.Need-returns
+returns c =
+    let middle = c .before .before .before in
+    let upper = middle .before .before .before in
+    rw (
+      c .odd3 .ensures,
+      c .before .before .place3 .ensures,
+      middle .odd2 .ensures,
+      middle .before .before .place2 .ensures,
+      upper .odd .ensures,
+      upper .before .before .place .ensures,
+    )
+
+pub column-at-spec : {M : Type 1} → statement M
+column-at-spec =
+    tie.close
+    (tie.spec
+    place-requires
+    shared-slice-read-odd
+    odd-requires
+    place-requires-2
+    shared-slice-read-odd-2
+    odd-requires-2
+    place-requires-3
+    shared-slice-read-odd-3
+    odd-requires-3
+    returns)

@@ -1,0 +1,2 @@
+-- Laws of a field's distances.
+pub mod Fields

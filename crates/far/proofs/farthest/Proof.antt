@@ -1,0 +1,72 @@
+-- `far::farthest` meets its contract. Assumes nothing.
+use Prim.Native.Nat.{zero-le}
+-- `far::farthest` meets its contract. The invariant: what is left of the field, with the largest so far, gives the whole's. Assumes nothing.
+use borrow.Author.Needs.{needs}
+use mathlib.Core.Path.{_≡_, refl, ap, _∙_}
+use Prim.Native.Nat.{ℕ, _-_, _≤_, max}
+use native.Mathlib.Omega.{arith}
+use lib.ListN.{length, drop}
+use Rattle.rules.specs.Render.{farthest}
+use Rattle.far.proofs.Fields.{more, all}
+use Rattle.far.proofs.farthest.Statement.{statement}
+use Rattle.far.proofs.farthest.Tie as tie
+use Rattle.far.proofs.farthest.Reads as reads
+use Rattle.far.proofs.farthest.Lts as lts
+use Rattle.far.proofs.apart.Reads as apart-reads
+use Rattle.far.proofs.larger.Reads as larger-reads
+
+abbrev Inv-loop : tie.InvT-loop
+Inv-loop field n most₀ i₀ most i = (i ≤ length field) × (farthest field n ≡ farthest (drop i field) most)
+
+abbrev μ-loop : tie.MeasureT-loop
+μ-loop field n most₀ i₀ most i = length field - i
+
+loop-holds : tie.Need-loop-holds Inv-loop μ-loop
+loop-holds c = (zero-le, refl)
+
+mul-apart : tie.Need-mul-apart Inv-loop μ-loop
+mul-apart c = search needs
+
+shared-slice-read-apart : tie.Need-shared-slice-read-apart Inv-loop μ-loop
+shared-slice-read-apart c = search needs
+
+apart-requires : tie.Need-apart-requires Inv-loop μ-loop
+apart-requires c κs = search needs
+
+larger-requires : tie.Need-larger-requires Inv-loop μ-loop
+larger-requires c κs = search needs
+
+add-i : tie.Need-add-i Inv-loop μ-loop
+add-i c = search needs
+
+loop-less : tie.Need-loop-less Inv-loop μ-loop
+loop-less c = search needs
+
+loop-again : tie.Need-loop-again Inv-loop μ-loop
+loop-again c =
+    let test = c .before .before .before in
+    let at = test .before in
+    let s = at .before .before in
+    (omega arith, more (s .args .field .now) (at .loop .i) (s .args .n) (at .loop .most) (c .larger .result) (test .loop-test .taken) (at .loop .inv .1) (c .larger .ensures ∙ ap (λ (k : ℕ). max (at .loop .most) k) (c .before .apart .ensures)))
+
+returns : tie.Need-returns Inv-loop μ-loop
+returns c =
+    let at = c .before in
+    let s = at .before .before in
+    all (s .args .field .now) (at .loop .i) (s .args .n) (at .loop .most) (c .loop-test .left) (at .loop .inv .1)
+
+pub farthest-spec : {M : Type 1} → statement M
+farthest-spec =
+    tie.close
+    (tie.spec
+    Inv-loop
+    μ-loop
+    loop-holds
+    mul-apart
+    shared-slice-read-apart
+    apart-requires
+    larger-requires
+    add-i
+    loop-less
+    loop-again
+    returns)

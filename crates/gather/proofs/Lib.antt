@@ -1,0 +1,3 @@
+-- Laws of the sums.
+pub mod Pixels
+pub mod Table

@@ -1,0 +1,57 @@
+-- `gather::gather_pixel` meets its contract. Assumes nothing.
+use borrow.Author.Needs.{needs}
+use mathlib.Core.Path.{ap, _∙_}
+use mathlib.Core.List.{List}
+use lib.Ieee.{Float}
+use Rattle.terms.specs.Terms.{listOf}
+use Rattle.gather.specs.Sums.{Frames, framesOf, termsAdded}
+use Rattle.gather.proofs.Pixels.{pixel-terms}
+use Rattle.gather.proofs.gather_pixel.Statement.{statement}
+use Rattle.gather.proofs.gather_pixel.Tie as tie
+
+abbrev frames : tie.Start → Frames
+frames s =
+    let a = s .args in
+    framesOf (a .first .now) (a .first-pitch) (a .second .now) (a .second-pitch) (a .forward-x .now) (a .forward-y .now) (a .backward-x .now) (a .backward-y .now)
+    (a .grid) (a .width) (a .height) (a .ratio)
+
+carry-requires : tie.Need-carry-requires
+carry-requires c κs = search needs
+
+steps-of-requires : tie.Need-steps-of-requires
+steps-of-requires c κs = search needs
+
+terms-by-requires : tie.Need-terms-by-requires
+terms-by-requires c κs = search needs
+
+add-terms-requires : tie.Need-add-terms-requires
+add-terms-requires c κs = search needs
+
+same-length : tie.Need-same-length
+same-length c = search needs
+
+returns : tie.Need-returns
+returns c =
+    let stored = c .before .before in
+    let by = stored .before .before in
+    let steps = by .before in
+    let held = steps .before in
+    let s = held .before .before .before .before .before .before .before .before in
+    let a = s .args in
+    let e = pixel-terms (frames s) (a .x) (a .y) (a .down) (held .carry .result) (steps .steps-of .result) (listOf (by .terms-by .result))
+    (s .pre .2 .rows .is) (held .carry .ensures) (steps .steps-of .ensures) (by .terms-by .ensures) in
+    record {
+      sums = stored .add-terms .ensures ∙ ap (λ (z : List Float). termsAdded (a .pairs) (a .many) z (a .k) (a .sums .now)) e;
+      holds = held .carry .ensures .holds;
+    }
+
+pub gather-pixel-spec : {M : Type 1} → statement M
+gather-pixel-spec =
+    tie.close
+    (tie.spec
+    carry-requires
+    steps-of-requires
+    terms-by-requires
+    add-terms-requires
+    same-length
+    returns)

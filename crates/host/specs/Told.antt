@@ -1,0 +1,18 @@
+-- What an exported call tells: its answer as one 64-bit number, and what it leaves in the slices that it may write.
+use mathlib.Core.Path.{_≡_}
+use mathlib.Core.List.{List}
+use Prim.Native.Nat.{ℕ}
+use Rattle.rules.specs.declared.Answer.{Answer}
+use Rattle.rules.specs.Host.{word}
+
+-- one slice
+pub record Told {A : Type 0} (answer : Answer) (leaves left : List A) (r : ℕ) : Type 0 where
+  pub told : r ≡ word answer
+  pub slice : left ≡ leaves
+
+-- three, of luma and of the chroma planes
+pub record ToldThree {A : Type 0} (answer : Answer) (luma : List A) (chroma : List A × List A) (luma′ chroma1′ chroma2′ : List A) (r : ℕ) : Type 0 where
+  pub told : r ≡ word answer
+  pub luma-left : luma′ ≡ luma
+  pub chroma1-left : chroma1′ ≡ chroma .0
+  pub chroma2-left : chroma2′ ≡ chroma .1

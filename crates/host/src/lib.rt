@@ -1,0 +1,192 @@
+// The C interface. Each function is a thin one over the proved call, with the whole equation as its contract: the answer, count times 256 plus the
+// number, and every element of every slice that the call may write.
+use rules::Answer;
+ghost use mathlib.Core.Path.{_≡_};
+ghost use Rattle.rules.specs.Forms.{uncounted};
+ghost use Rattle.rules.specs.Calls.{StatsCall, DistancesCall, MaskCall, ApplyCall, HoldCall};
+ghost use Rattle.rules.specs.Refusals.{statsRefusal, distancesRefusal, maskRefusal, applyRefusal, holdRefusal};
+ghost use Rattle.rules.specs.Float.{pixel as pixelOf, cut as cutOf};
+ghost use Rattle.rules.specs.Distances.{distancesLeaves};
+ghost use Rattle.rules.specs.Stats.{statsLeaves};
+ghost use Rattle.rules.specs.Still.{maskLeaves, applyLeaves, holdLeaves};
+ghost use Rattle.host.specs.Lent.{plane as planeOf, mask as maskOf, frames as framesOf, motion as motionOf, part as partOf, pairOf};
+ghost use Rattle.host.specs.Told.{Told, ToldThree};
+
+// An answer without a count.
+fn number(a: Answer) -> u64
+    ensures { λ r. ⌜ r ≡ a .number ⌝ }
+{
+    a.number as u64
+}
+
+#[no_mangle]
+pub extern "C" fn safeteal_distances(cells: &mut [u8], width: usize) -> u64
+    ensures { λ r. ⌜ (let c : DistancesCall = record { cells = now (cells .entry); width = width } in Told (uncounted (distancesRefusal c)) (distancesLeaves c) (now (cells .exit)) r) ⌝ }
+{
+    number(distances::distances(cells, width))
+}
+
+#[no_mangle]
+pub extern "C" fn safeteal_mask(
+    first: &[u8],
+    second: &[u8],
+    pitch: usize,
+    width: usize,
+    height: usize,
+    limit: f32,
+    edge: f32,
+    tolerance: f32,
+    still: &mut [u8],
+) -> u64
+    ensures { λ r. ⌜ (let c : MaskCall = record { first = planeOf (now (first .entry)) pitch; second = planeOf (now (second .entry)) pitch; size = (width, height); settings = record { limit = limit; edge = edge; tolerance = tolerance }; still = now (still .entry) } in Told (uncounted (maskRefusal c)) (maskLeaves c) (now (still .exit)) r) ⌝ }
+{
+    number(mask::mask(
+        still,
+        first,
+        second,
+        pitch,
+        width,
+        height,
+        limit,
+        edge,
+        tolerance,
+    ))
+}
+
+#[no_mangle]
+pub extern "C" fn safeteal_apply(
+    output: &mut [u8],
+    output_pitch: usize,
+    first: &[u8],
+    second: &[u8],
+    pitch: usize,
+    width: usize,
+    height: usize,
+    still: &[u8],
+    still_width: usize,
+    time: f32,
+) -> u64
+    ensures { λ r. ⌜ (let c : ApplyCall = record { output = planeOf (now (output .entry)) «output_pitch»; frames = framesOf (planeOf (now (first .entry)) pitch) (planeOf (now (second .entry)) pitch) time; size = (width, height); mask = maskOf (now (still .entry)) «still_width» } in Told (uncounted (applyRefusal c)) (applyLeaves c) (now (output .exit)) r) ⌝ }
+{
+    number(apply::apply(
+        output,
+        output_pitch,
+        first,
+        second,
+        pitch,
+        width,
+        height,
+        still,
+        still_width,
+        time,
+    ))
+}
+
+#[no_mangle]
+pub extern "C" fn safeteal_hold(
+    output: &mut [u8],
+    output_pitch: usize,
+    held: &[u8],
+    held_pitch: usize,
+    width: usize,
+    height: usize,
+    mask: &[u8],
+    mask_width: usize,
+) -> u64
+    ensures { λ r. ⌜ (let c : HoldCall = record { output = planeOf (now (output .entry)) «output_pitch»; held = planeOf (now (held .entry)) «held_pitch»; size = (width, height); mask = maskOf (now (mask .entry)) «mask_width» } in Told (uncounted (holdRefusal c)) (holdLeaves c) (now (output .exit)) r) ⌝ }
+{
+    number(hold::hold(
+        output,
+        output_pitch,
+        held,
+        held_pitch,
+        width,
+        height,
+        mask,
+        mask_width,
+    ))
+}
+
+#[no_mangle]
+pub extern "C" fn safeteal_stats(
+    luma: &mut [f32],
+    chroma1: &mut [f32],
+    chroma2: &mut [f32],
+    pairs: usize,
+    width: usize,
+    height: usize,
+    ratio: usize,
+    first0: &[u8],
+    first0_pitch: usize,
+    first1: &[u8],
+    first1_pitch: usize,
+    first2: &[u8],
+    first2_pitch: usize,
+    second0: &[u8],
+    second0_pitch: usize,
+    second1: &[u8],
+    second1_pitch: usize,
+    second2: &[u8],
+    second2_pitch: usize,
+    forward_x: &[u16],
+    forward_y: &[u16],
+    backward_x: &[u16],
+    backward_y: &[u16],
+    grid_width: usize,
+    grid_height: usize,
+    block_width: i32,
+    block_height: i32,
+    origin_x: i32,
+    origin_y: i32,
+    pel: i32,
+) -> u64
+    ensures { λ r. ⌜ (let c : StatsCall = record { sums = partOf (now (luma .entry)) (now (chroma1 .entry)) (now (chroma2 .entry)) pairs; size = (width, height); ratio = ratio; pair = pairOf (planeOf (now (first0 .entry)) «first0_pitch») (planeOf (now (first1 .entry)) «first1_pitch») (planeOf (now (first2 .entry)) «first2_pitch») (planeOf (now (second0 .entry)) «second0_pitch») (planeOf (now (second1 .entry)) «second1_pitch») (planeOf (now (second2 .entry)) «second2_pitch») (motionOf (now («forward_x» .entry)) (now («forward_y» .entry)) (now («backward_x» .entry)) (now («backward_y» .entry)) «grid_width» «grid_height» «block_width» «block_height» «origin_x» «origin_y» pel) } in ToldThree (uncounted (statsRefusal c)) (statsLeaves c .luma) (statsLeaves c .chroma) (now (luma .exit)) (now (chroma1 .exit)) (now (chroma2 .exit)) r) ⌝ }
+{
+    number(stats::stats(
+        luma,
+        chroma1,
+        chroma2,
+        pairs,
+        width,
+        height,
+        ratio,
+        first0,
+        first0_pitch,
+        first1,
+        first1_pitch,
+        first2,
+        first2_pitch,
+        second0,
+        second0_pitch,
+        second1,
+        second1_pitch,
+        second2,
+        second2_pitch,
+        forward_x,
+        forward_y,
+        backward_x,
+        backward_y,
+        grid_width,
+        grid_height,
+        block_width,
+        block_height,
+        origin_x,
+        origin_y,
+        pel,
+    ))
+}
+
+// The final rounding and the cut by themselves, for a run over all floats.
+#[no_mangle]
+pub extern "C" fn safeteal_pixel(value: f32) -> u64
+    ensures { λ r. ⌜ r ≡ pixelOf value ⌝ }
+{
+    float::pixel(value) as u64
+}
+
+#[no_mangle]
+pub extern "C" fn safeteal_cut(value: f32) -> u64
+    ensures { λ r. ⌜ r ≡ cutOf value ⌝ }
+{
+    float::cut(value) as u64
+}

@@ -1,0 +1,3 @@
+-- Laws of the tests, and what they say where they hold.
+pub mod Tests
+pub mod Accepted

@@ -1,0 +1,94 @@
+-- A call of mask that is not refused can be run, and its three passes make the table. Assumes nothing.
+use mathlib.Core.Path.{_≡_, refl, sym, _∙_}
+use mathlib.Core.Bool.{Bool, true, false, _&&_}
+use mathlib.Core.List.{List}
+use Prim.Native.Nat.{ℕ, _+_, _-_, _*_, _/_, _%_, _≤_, _<_}
+use native.Mathlib.Nat.{add-mul-div-left, suc-mul, mul-comm}
+use native.Mathlib.Omega.{arith}
+use borrow.Author.Tests.{eqb-true}
+use lib.Dec.{eqb}
+use lib.ListN.{length, getD}
+use Rattle.rules.specs.Forms.{Plane, tabulate, each}
+use Rattle.rules.specs.Calls.{Settings}
+use Rattle.rules.specs.Domain.{areSizes, isPitch, isPlane}
+use Rattle.rules.specs.Refusals.{firstFitting, maskRefusal}
+use Rattle.rules.specs.Still.{sameAt, fullCorner as full, still}
+use Rattle.pass.specs.Pass.{PlaneIn}
+use Rattle.pass.specs.Table.{RowsStored}
+use Rattle.pass.proofs.Accepted.{both, passed, sizes-in, plane-in}
+use Rattle.pass.proofs.Tables.{length-tabulate, getD-tabulate, is-table, table, table-length, table-at}
+use Rattle.same.specs.Same.{bitOf, sameBit}
+use Rattle.corner.specs.Corner.{fullBy, stillBy, bothBits, Holds, RowsMarked}
+use Rattle.mask.specs.Call.{callOf}
+
+-- ---- bits
+
+odd-bit : (b : Bool) → eqb (bitOf b % 2) 1 ≡ b
+odd-bit true = refl
+odd-bit false = refl
+
+half-both : (b : Bool) (n : ℕ) → (bitOf b + 2 * n) / 2 ≡ n
+half-both true n = omega arith
+half-both false n = omega arith
+
+-- ---- a call
+
+module _ (first second : Plane) (width height : ℕ) (s : Settings) where
+  -- the first pass stores the plane of yes and no
+  pub holds : (before after : List ℕ) → RowsStored width (sameBit first second (width, height) s) height before after → length before ≡ width * height
+      → Holds (sameAt first second (width, height) s) (width, height) after
+  holds before after done long =
+      record {
+        odd = λ x y p q.
+            rw (table-at width (sameBit first second (width, height) s) height before after done long x y 0 p q)
+            (odd-bit (sameAt first second (width, height) s x y));
+      }
+
+  answer-is : (x y : ℕ) → stillBy (sameAt first second (width, height) s) (width, height) x y ≡ still first second (width, height) s x y
+  unfolding still full stillBy fullBy
+  answer-is x y = refl
+
+  -- the second puts the answers above it, and the third leaves them alone
+  pub answers : (before after last : List ℕ) → length before ≡ width * height
+      → RowsMarked (sameAt first second (width, height) s) (width, height) height before after
+      → last ≡ tabulate (length after) (λ k. getD after k 0 / 2)
+      → last ≡ tabulate (width * height) (λ k. still first second (width, height) s (k % width) (k / width))
+  answers before after last long marked halved =
+      let same = sameAt first second (width, height) s in
+      let bits = bothBits same (width, height) in
+      let whole = table-length width bits height before after (marked .stored) long in
+      let e = table width bits height before after (marked .stored) long in
+      is-table (width * height) (λ k. still first second (width, height) s (k % width) (k / width)) last 0
+      (rw halved (length-tabulate (length after) (λ k. getD after k 0 / 2) ∙ whole))
+      (λ k h. rw (halved, getD-tabulate (length after) (λ j. getD after j 0 / 2) k 0 (rw whole h))
+      (rw (e, getD-tabulate (width * height) (λ j. bits (j % width) (j / width)) k 0 h, half-both (same (k % width) (k / width)) (stillBy same (width, height) (k % width) (k / width)))
+      (answer-is (k % width) (k / width))))
+
+  -- what the passes ask
+  pub runs : (filled : List ℕ) → maskRefusal (callOf first second width height s filled) ≡ 0
+      → PlaneIn filled width (width, height) × PlaneIn (first .bytes) (first .pitch) (width, height)
+      × PlaneIn (second .bytes) (second .pitch) (width, height) × (1 ≤ width) × (length filled ≡ width * height)
+  unfolding maskRefusal firstFitting each
+  runs filled e =
+      let size : ℕ × ℕ = (width, height) in
+      let a = passed 0 _ (areSizes size) e in
+      let b = passed 2 _ (isPitch (first .pitch) width && (isPitch (second .pitch) width && true)) (a .1) in
+      let c = passed 3 _ (isPlane first size && (isPlane second size && true)) (b .1) in
+      let d = passed 3 _ (eqb (length filled) (width * height)) (c .1) in
+      let p = both (isPitch (first .pitch) width) (isPitch (second .pitch) width && true) (b .0) in
+      let l = both (isPlane first size) (isPlane second size && true) (c .0) in
+      let z = sizes-in size (a .0) in
+      let long = eqb-true (length filled) (width * height) (d .0) in
+      let rows : (height - 1) * width + width ≡ width * height = rows-are height width (z .2) in (
+        record { near = (z .1, z .3); apart = omega (arith, z .1); inside = omega (arith, rows, long) },
+        plane-in (first .bytes) (first .pitch) size (a .0) (p .0) (l .0),
+        plane-in (second .bytes) (second .pitch) size (a .0) (both (isPitch (second .pitch) width) true (p .1) .0) (both (isPlane second size) true (l .1) .0),
+        z .0,
+        long,
+      )
+    where
+      rows-are : (h w : ℕ) → 1 ≤ h → (h - 1) * w + w ≡ w * h
+      rows-are h w some =
+          let e : h - 1 + 1 ≡ h = omega arith in
+          let m : (h - 1 + 1) * w ≡ h * w = rw e in
+          omega (arith, suc-mul (h - 1) w, mul-comm h w)

@@ -1,0 +1,81 @@
+-- `mask::halve` meets its contract. The invariant: the first k bytes are halved. Assumes nothing.
+use borrow.Author.Needs.{needs}
+use mathlib.Core.Path.{_≡_, refl, _∙_}
+use Prim.Native.Nat.{_-_, _/_, _≤_}
+use native.Mathlib.Numerals.{add-one}
+use native.Mathlib.Omega.{arith}
+use lib.ListN.{length, getD}
+use Rattle.rules.specs.Forms.{turns}
+use Rattle.pass.proofs.Tables.{filled, filled-length, filled-rest, filled-table}
+use Rattle.mask.proofs.halve.Statement.{statement}
+use Rattle.mask.proofs.halve.Tie as tie
+use Rattle.mask.proofs.halve.Reads as reads
+use Rattle.mask.proofs.halve.Lts as lts
+
+abbrev Inv-loop : tie.InvT-loop
+Inv-loop still₀ k₀ still k =
+    (still ≡ filled (λ j. getD still₀ j 0 / 2) k still₀) × (k ≤ length still₀)
+
+abbrev μ-loop : tie.MeasureT-loop
+μ-loop still₀ k₀ still k = length still₀ - k
+
+-- src/lib.rt:19:5
+-- a list that is half done is as long
+long : (c : tie.At-loop Inv-loop μ-loop) → length (c .loop .still) ≡ length (c .before .args .still .now)
+long c = rw (c .loop .inv .0) (filled-length (λ j. getD (c .before .args .still .now) j 0 / 2) (c .loop .k) (c .before .args .still .now))
+
+loop-holds : tie.Need-loop-holds Inv-loop μ-loop
+unfolding turns
+loop-holds c = (refl, omega arith)
+
+-- src/lib.rt:20:20
+slice-read-still : tie.Need-slice-read-still Inv-loop μ-loop
+slice-read-still c = search needs
+
+-- src/lib.rt:20:9
+slice-write-still : tie.Need-slice-write-still Inv-loop μ-loop
+slice-write-still c = search needs
+
+-- src/lib.rt:21:9
+add-k : tie.Need-add-k Inv-loop μ-loop
+add-k c = search needs
+
+-- src/lib.rt:19:5
+loop-less : tie.Need-loop-less Inv-loop μ-loop
+loop-less c = omega (arith, long (c .before .before))
+
+-- src/lib.rt:19:5
+loop-again : tie.Need-loop-again Inv-loop μ-loop
+unfolding turns
+loop-again c =
+    let l = c .before .before in
+    let list = l .before .args .still .now in
+    let old = filled-rest (λ j. getD list j 0 / 2) (l .loop .k) list (l .loop .k) 0 (omega arith) in
+    (rw (l .loop .inv .0, old, add-one), omega (arith, long l))
+
+-- src/lib.rt:15:1
+same-length : tie.Need-same-length Inv-loop μ-loop
+same-length c = long (c .before)
+
+-- src/lib.rt:15:1
+returns : tie.Need-returns Inv-loop μ-loop
+returns c =
+    let l = c .before in
+    let list = l .before .args .still .now in
+    let whole : l .loop .k ≡ length list = omega (arith, long l) in
+    rw whole at (l .loop .inv .0) ∙ filled-table (λ j. getD list j 0 / 2) (length list) list refl
+
+pub halve-spec : {M : Type 1} → statement M
+halve-spec =
+    tie.close
+    (tie.spec
+    Inv-loop
+    μ-loop
+    loop-holds
+    slice-read-still
+    slice-write-still
+    add-k
+    loop-less
+    loop-again
+    same-length
+    returns)

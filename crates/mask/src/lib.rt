@@ -1,0 +1,114 @@
+// Mask: 1 where the picture is still, 0 elsewhere. The bytes that it fills carry the passes, so that it needs no others.
+use rules::Answer;
+ghost use mathlib.Core.Path.{_≡_};
+ghost use Prim.Native.Nat.{_*_, _/_};
+ghost use lib.Dec.{eqb};
+ghost use lib.ListN.{length, getD};
+ghost use Rattle.rules.specs.Forms.{tabulate};
+ghost use Rattle.rules.specs.Refusals.{maskRefusal};
+ghost use Rattle.rules.specs.Still.{maskLeaves};
+ghost use Rattle.pass.specs.Pass.{Done};
+ghost use Rattle.same.specs.Same.{planeOf, settingsOf};
+ghost use Rattle.mask.specs.Call.{callOf};
+
+// The bit above the lowest, of bytes of two bits.
+fn halve(still: &mut [u8])
+    ensures { λ _. ⌜ now (still .exit) ≡ tabulate (length (now (still .entry))) (λ k. getD (now (still .entry)) k 0 / 2) ⌝ }
+{
+    let mut k = 0;
+    while k < still.len() {
+        still[k] = still[k] / 2;
+        k += 1;
+    }
+}
+
+// A length of width times height. The product, which may not fit, is not made.
+fn exact(size: usize, width: usize, height: usize) -> bool
+    ensures { λ r. ⌜ r ≡ eqb size (width * height) ⌝ }
+{
+    if height == 0 {
+        size == 0
+    } else {
+        plane::both(plane::divides(height, size), size / height == width)
+    }
+}
+
+// The number of mask's refusal, or 0. It does not look at the settings.
+fn mask_refusal(
+    still: &[u8],
+    first: &[u8],
+    second: &[u8],
+    pitch: usize,
+    width: usize,
+    height: usize,
+    limit: f32,
+    edge: f32,
+    tolerance: f32,
+) -> u8
+    ensures { λ r. ⌜ r ≡ maskRefusal (callOf (planeOf (now (first .entry)) pitch) (planeOf (now (second .entry)) pitch) width height (settingsOf limit edge tolerance) (now (still .entry))) ⌝ }
+{
+    let sizes = plane::both(plane::sized(width), plane::sized(height));
+    let pitched = plane::pitched(pitch, width);
+    let pitches = plane::both(pitched, plane::both(pitched, true));
+    let lengths = plane::both(
+        plane::planed(first.len(), pitch, width, height),
+        plane::both(plane::planed(second.len(), pitch, width, height), true),
+    );
+    let filled = exact(still.len(), width, height);
+    plane::unless(
+        1,
+        sizes,
+        plane::unless(
+            3,
+            pitches,
+            plane::unless(4, lengths, plane::unless(4, filled, 0)),
+        ),
+    )
+}
+
+// Masks, or refuses: the contract is the equation for both.
+pub fn mask(
+    still: &mut [u8],
+    first: &[u8],
+    second: &[u8],
+    pitch: usize,
+    width: usize,
+    height: usize,
+    limit: f32,
+    edge: f32,
+    tolerance: f32,
+) -> Answer
+    ensures { λ r. ⌜ (let c = callOf (planeOf (now (first .entry)) pitch) (planeOf (now (second .entry)) pitch) width height (settingsOf limit edge tolerance) (now (still .entry)) in Done (maskRefusal c) (maskLeaves c) (now (still .exit)) r) ⌝ }
+{
+    let number = mask_refusal(
+        still,
+        first,
+        second,
+        pitch,
+        width,
+        height,
+        limit,
+        edge,
+        tolerance,
+    );
+    if number != 0 {
+        return Answer { number, count: 0 };
+    }
+    same::same_rows(
+        still,
+        first,
+        second,
+        pitch,
+        width,
+        height,
+        limit,
+        edge,
+        tolerance,
+    );
+    corner::mark_rows(still, width, height);
+    halve(still);
+    Answer {
+        number: 0,
+        count: 0,
+    }
+}

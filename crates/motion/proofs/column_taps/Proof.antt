@@ -1,0 +1,44 @@
+-- `motion::column_taps` meets its contract. Assumes nothing.
+use borrow.Author.Needs.{needs}
+use Rattle.rules.specs.Motion.{columnTaps}
+use Rattle.motion.proofs.Fields.{back}
+use Rattle.motion.proofs.column_taps.Statement.{statement}
+use Rattle.motion.proofs.column_taps.Tie as tie
+
+of-size-requires : tie.Need-of-size-requires
+of-size-requires c κs = search needs
+
+of-size-requires-2 : tie.Need-of-size-requires-2
+of-size-requires-2 c κs = search needs
+
+of-int-requires : tie.Need-of-int-requires
+of-int-requires c κs = search needs
+
+of-int-requires-2 : tie.Need-of-int-requires-2
+of-int-requires-2 c κs = search needs
+
+taps-requires : tie.Need-taps-requires
+taps-requires c κs = search needs
+
+returns : tie.Need-returns
+unfolding columnTaps
+returns c =
+    let s = c .before .before .before .before .before .before .before in
+    let g = s .args .grid in
+    let t = c .taps .ensures in
+    record {
+      is = rw (t .is, c .before .of-int2 .ensures, c .before .before .before .of-int .ensures, c .before .before .before .before .before .of-size2 .ensures, c .before .before .before .before .before .before .of-size .ensures, back (g .«origin_x») (s .pre .0 .origins .0), back (g .«block_width») (s .pre .0 .blocks .0));
+      first-in = t .first-in;
+      second-in = t .second-in;
+    }
+
+pub column-taps-spec : {M : Type 1} → statement M
+column-taps-spec =
+    tie.close
+    (tie.spec
+    of-size-requires
+    of-size-requires-2
+    of-int-requires
+    of-int-requires-2
+    taps-requires
+    returns)

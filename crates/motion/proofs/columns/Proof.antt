@@ -1,0 +1,39 @@
+-- `motion::columns` meets its contract. Assumes nothing.
+use borrow.Author.Needs.{needs}
+use Rattle.rules.specs.Motion.{column}
+use Rattle.motion.proofs.Fields.{back}
+use Rattle.motion.specs.Moves.{columnAt, columnsOf}
+use Rattle.motion.proofs.columns.Statement.{statement}
+use Rattle.motion.proofs.columns.Tie as tie
+
+scale-requires : tie.Need-scale-requires
+scale-requires c κs = search needs
+
+column-requires : tie.Need-column-requires
+column-requires c κs = search needs
+
+column-requires-2 : tie.Need-column-requires-2
+column-requires-2 c κs = search needs
+
+column-requires-3 : tie.Need-column-requires-3
+column-requires-3 c κs = search needs
+
+column-requires-4 : tie.Need-column-requires-4
+column-requires-4 c κs = search needs
+
+returns : tie.Need-returns
+unfolding columnAt columnsOf column
+returns c =
+    let s = c .before .before .before .before .before .before .before .before .before .before in
+    rw (c .column4 .ensures, c .before .column3 .ensures, c .before .before .column2 .ensures, c .before .before .before .column .ensures, c .before .before .before .before .scale .ensures, back (s .args .grid .pel) (s .pre .0 .laid .parts))
+
+pub columns-spec : {M : Type 1} → statement M
+columns-spec =
+    tie.close
+    (tie.spec
+    scale-requires
+    column-requires
+    column-requires-2
+    column-requires-3
+    column-requires-4
+    returns)

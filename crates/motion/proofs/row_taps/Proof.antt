@@ -1,0 +1,41 @@
+-- `motion::row_taps` meets its contract. Assumes nothing.
+use borrow.Author.Needs.{needs}
+use native.Mathlib.Omega.{arith}
+use Rattle.rules.specs.Motion.{rowTaps}
+use Rattle.motion.proofs.Fields.{back, scaled}
+use Rattle.motion.proofs.row_taps.Statement.{statement}
+use Rattle.motion.proofs.row_taps.Tie as tie
+
+mul-of-size : tie.Need-mul-of-size
+mul-of-size c =
+    let h = scaled (c .args .y) (c .args .ratio) (c .pre .1) (c .pre .0 .few) in
+    omega arith
+
+of-size-requires : tie.Need-of-size-requires
+of-size-requires c κs = scaled (c .args .y) (c .args .ratio) (c .pre .1) (c .pre .0 .few)
+
+of-int-requires : tie.Need-of-int-requires
+of-int-requires c κs = search needs
+
+of-int-requires-2 : tie.Need-of-int-requires-2
+of-int-requires-2 c κs = search needs
+
+taps-requires : tie.Need-taps-requires
+taps-requires c κs = search needs
+
+returns : tie.Need-returns
+unfolding rowTaps
+returns c =
+    let s = c .before .before .before .before .before .before in
+    let g = s .args .grid in
+    let t = c .taps .ensures in
+    record {
+      is = rw (t .is, c .before .of-int2 .ensures, c .before .before .before .of-int .ensures, c .before .before .before .before .before .of-size .ensures, back (g .«origin_y») (s .pre .0 .origins .1), back (g .«block_height») (s .pre .0 .blocks .1));
+      first-in = t .first-in;
+      second-in = t .second-in;
+    }
+
+pub row-taps-spec : {M : Type 1} → statement M
+row-taps-spec =
+    tie.close
+    (tie.spec mul-of-size of-size-requires of-int-requires of-int-requires-2 taps-requires returns)

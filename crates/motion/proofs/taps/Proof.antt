@@ -1,0 +1,20 @@
+-- `motion::taps` meets its contract. Assumes nothing.
+use borrow.Author.Needs.{needs}
+use Rattle.rules.specs.Motion.{taps}
+use Rattle.motion.proofs.taps.Statement.{statement}
+use Rattle.motion.proofs.taps.Tie as tie
+
+held-requires : tie.Need-held-requires
+held-requires c κs = search needs
+
+between-requires : tie.Need-between-requires
+between-requires c κs = search needs
+
+returns : tie.Need-returns
+unfolding taps
+returns c =
+    let b = c .between .ensures in
+    record { is = rw (b .is, c .before .held .ensures .is); first-in = b .first-in; second-in = b .second-in }
+
+pub taps-spec : {M : Type 1} → statement M
+taps-spec = tie.close (tie.spec held-requires between-requires returns)

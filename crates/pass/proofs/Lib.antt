@@ -1,0 +1,3 @@
+pub mod Pass
+pub mod Accepted
+pub mod Tables

@@ -1,0 +1,141 @@
+use borrow.Author.Needs.{needs}
+-- `same::same_row` meets its contract. The invariant: the first x pixels are stored. Assumes nothing.
+use mathlib.Core.Path.{_≡_, refl, _∙_}
+use Prim.Native.Nat.{_+_, _-_, _≤_, _<_}
+use native.Mathlib.Nat.{le-antisymm}
+use native.Mathlib.Omega.{arith}
+use lib.ListN.{length, length-set}
+use Rattle.rules.specs.Reading.{after}
+use Rattle.pass.specs.Table.{RowStored}
+use Rattle.pass.proofs.Tables.{row-none, row-more}
+use Rattle.same.specs.Same.{planeOf, settingsOf, sameBit}
+use Rattle.same.proofs.Rows.{around, same-here}
+use Rattle.same.proofs.same_row.Statement.{statement}
+use Rattle.same.proofs.same_row.Tie as tie
+use Rattle.same.proofs.same_row.Reads as reads
+use Rattle.same.proofs.same_row.Lts as lts
+use Rattle.plane.proofs.place.Reads as place-reads
+use Rattle.same.proofs.after.Reads as after-reads
+use Rattle.same.proofs.same_at.Reads as same-at-reads
+
+abbrev Inv-loop : tie.InvT-loop
+Inv-loop still₀ first second pitch width height limit edge tolerance y below last x₀ still x =
+    RowStored width (sameBit (planeOf first pitch) (planeOf second pitch) (width, height) (settingsOf limit edge tolerance)) y x still₀ still × (x ≤ last) × (length still ≡ length still₀)
+
+abbrev μ-loop : tie.MeasureT-loop
+μ-loop still₀ first second pitch width height limit edge tolerance y below last x₀ still x = last - x
+
+-- src/lib.rt:109:9
+after-requires : tie.Need-after-requires Inv-loop μ-loop
+after-requires c κs = search needs
+
+-- src/lib.rt:110:16
+sub-last : tie.Need-sub-last Inv-loop μ-loop
+sub-last c = search needs
+
+-- src/lib.rt:112:5
+loop-holds : tie.Need-loop-holds Inv-loop μ-loop
+loop-holds c = (row-none _ _ _ _, omega arith, refl)
+
+-- src/lib.rt:113:13
+place-requires : tie.Need-place-requires Inv-loop μ-loop
+place-requires c κs = search needs
+
+-- src/lib.rt:122:13
+add-same-at : tie.Need-add-same-at Inv-loop μ-loop
+add-same-at c = search needs
+
+-- src/lib.rt:114:20
+same-at-requires : tie.Need-same-at-requires Inv-loop μ-loop
+same-at-requires c κs =
+    let l = c .before .before in
+    let a = l .before .after in
+    let start = l .before .before .before .before .before in
+    let x = l .loop .x in
+    let y = start .args .y in
+    let fits = start .pre in
+    let in-row : x < start .args .width = omega arith in
+    let beside : x + 1 < start .args .width = omega arith in
+    let under : a .result < start .args .height = omega (arith, a .ensures) in
+    (around x (x + 1) y (a .result) (fits .1) in-row beside (fits .4) under, around x (x + 1) y (a .result) (fits .2) in-row beside (fits .4) under)
+
+-- src/lib.rt:114:9
+slice-write-still : tie.Need-slice-write-still Inv-loop μ-loop
+slice-write-still c = search needs
+
+-- src/lib.rt:126:9
+add-x : tie.Need-add-x Inv-loop μ-loop
+add-x c = search needs
+
+-- src/lib.rt:112:5
+loop-less : tie.Need-loop-less Inv-loop μ-loop
+loop-less c = search needs
+
+-- src/lib.rt:112:5
+loop-again : tie.Need-loop-again Inv-loop μ-loop
+loop-again c =
+    let p = c .before in
+    let l = p .before .before in
+    let a = l .before .before .before .before .before .args in
+    let right : l .loop .x + 1 ≡ after (l .loop .x) (a .width) = omega arith in
+    let value = c .same-at .ensures ∙ same-here _ _ (a .width, a .height) _ (l .loop .x) _ (a .y) _ right (l .before .after .ensures) in
+    (rw (p .place .ensures) (row-more _ (l .loop .inv .0) value), omega arith, simp length-set (l .loop .inv .2))
+
+-- src/lib.rt:128:9
+place-requires-2 : tie.Need-place-requires-2 Inv-loop μ-loop
+place-requires-2 c κs = search needs
+
+-- src/lib.rt:129:16
+same-at-requires-2 : tie.Need-same-at-requires-2 Inv-loop μ-loop
+same-at-requires-2 c κs =
+    let a = c .before .before .before .after in
+    let start = c .before .before .before .before .before .before .before in
+    let y = start .args .y in
+    let last = start .args .width - 1 in
+    let fits = start .pre in
+    let in-row : last < start .args .width = omega arith in
+    let under : a .result < start .args .height = omega (arith, a .ensures) in
+    (around last last y (a .result) (fits .1) in-row in-row (fits .4) under, around last last y (a .result) (fits .2) in-row in-row (fits .4) under)
+
+-- src/lib.rt:129:5
+slice-write-still-2 : tie.Need-slice-write-still-2 Inv-loop μ-loop
+slice-write-still-2 c = search needs
+
+-- src/lib.rt:94:1
+same-length : tie.Need-same-length Inv-loop μ-loop
+same-length c = search needs
+
+-- src/lib.rt:94:1
+returns : tie.Need-returns Inv-loop μ-loop
+returns c =
+    let p = c .before in
+    let l = p .before .before in
+    let a = l .before .before .before .before .before .args in
+    let last = a .width - 1 in
+    let right : last ≡ after last (a .width) = omega arith in
+    let value = c .same-at2 .ensures ∙ same-here _ _ (a .width, a .height) _ last _ (a .y) _ right (l .before .after .ensures) in
+    let whole : last + 1 ≡ a .width = omega arith in
+    let done = rw (le-antisymm (l .loop .inv .1) (p .before .loop-test .left)) at (l .loop .inv .0) in
+    rw (p .place2 .ensures) (rw whole at (row-more _ done value))
+
+pub same-row-spec : {M : Type 1} → statement M
+same-row-spec =
+    tie.close
+    (tie.spec
+    Inv-loop
+    μ-loop
+    after-requires
+    sub-last
+    loop-holds
+    place-requires
+    add-same-at
+    same-at-requires
+    slice-write-still
+    add-x
+    loop-less
+    loop-again
+    place-requires-2
+    same-at-requires-2
+    slice-write-still-2
+    same-length
+    returns)

@@ -1,0 +1,46 @@
+-- `sample::whole` meets its contract. Assumes nothing.
+use borrow.Author.Needs.{needs}
+use mathlib.Core.Path.{_≡_}
+use native.Mathlib.Nat.{lt-of-le-of-lt, lt-of-lt-of-le, sub-le}
+use lib.Dec.{lit≤}
+use lib.Ieee.{Float, ofBits}
+use lib.Ieee.Casts.{toUnsigned-lt}
+use Rattle.float.proofs.Floor.{there-and-back}
+use Rattle.sample.specs.Points.{positiveOf}
+use Rattle.sample.proofs.Cut.{Cuts, cuts}
+use Rattle.sample.proofs.whole.Statement.{statement}
+use Rattle.sample.proofs.whole.Tie as tie
+
+at-start : (c : tie.Start) (q : Float) → q ≡ positiveOf (c .args .x) → Cuts (c .args .x) q (there-and-back q)
+at-start c q e = cuts (c .args .x) q (c .pre) e
+
+positive-requires : tie.Need-positive-requires
+positive-requires c κs = search needs
+
+float-to-int-n : tie.Need-float-to-int-n
+unfolding ofBits
+float-to-int-n c = at-start (c .before .before) (c .before .positive .result) (c .before .positive .ensures) .whole
+
+one-if-requires : tie.Need-one-if-requires
+one-if-requires c κs = search needs
+
+sub-result : tie.Need-sub-result
+unfolding ofBits
+sub-result c =
+    let k = at-start (c .before .before .before) (c .before .before .positive .result) (c .before .before .positive .ensures) in
+    rw (c .one-if .ensures) (k .enough)
+
+cast-result : tie.Need-cast-result
+unfolding ofBits
+cast-result c = record { fits = lt-of-le-of-lt (sub-le _ _) (lt-of-lt-of-le (toUnsigned-lt 32 _) (lit≤ tt)) }
+
+returns : tie.Need-returns
+unfolding ofBits
+returns c =
+    let k = at-start (c .before .before .before) (c .before .before .positive .result) (c .before .before .positive .ensures) in
+    rw (c .one-if .ensures) (k .is)
+
+pub whole-spec : {M : Type 1} → statement M
+whole-spec =
+    tie.close
+    (tie.spec positive-requires float-to-int-n one-if-requires sub-result cast-result returns)

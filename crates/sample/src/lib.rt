@@ -1,0 +1,119 @@
+// A byte plane, read at a pixel and between pixels.
+use rules::Taps;
+ghost use mathlib.Core.Path.{_≡_};
+ghost use mathlib.Core.Bool.{cond};
+ghost use Prim.Native.Nat.{_+_, _-_, _*_, _<_, _≤_, min};
+ghost use lib.ListN.{length};
+ghost use Rattle.rules.specs.Float.{float, cut, mix, _⊕_};
+ghost use Rattle.rules.specs.Reading.{at as atOf, sample as sampleOf, heldTo};
+ghost use Rattle.sample.specs.Points.{positiveOf, PlaneFits, Held, Within, around, sampledRow, sampledAt};
+
+// x where it is above 0, and 0 for a NaN too.
+fn positive(x: f32) -> f32
+    ensures { λ r. ⌜ r ≡ positiveOf x ⌝ }
+{
+    if x > 0.0 { x } else { 0.0 }
+}
+
+// 1 or 0, as a number that can be taken off without a branch.
+fn one_if(b: bool) -> u32
+    ensures { λ r. ⌜ r ≡ cond b 1 0 ⌝ }
+{
+    if b { 1 } else { 0 }
+}
+
+// The whole number below a point of a plane: 2^23 added and taken off leaves that number, or one more.
+fn whole(x: f32) -> usize
+    requires { ⌜ cut x ≤ 4096 ⌝ }
+    ensures { λ r. ⌜ r ≡ cut x ⌝ }
+{
+    let q = positive(x);
+    let w = q + 8388608.0 - 8388608.0;
+    let n = w as u32;
+    (n - one_if(q < w)) as usize
+}
+
+// The column or row after k, the last repeated.
+pub fn after(k: usize, size: usize) -> usize
+    requires { ⌜ k < size ⌝ }
+    ensures { λ r. ⌜ (r ≡ min (k + 1) (size - 1)) × (r < size) ⌝ }
+{
+    if k + 1 < size { k + 1 } else { size - 1 }
+}
+
+// A coordinate held to the plane. Below 0 first: two tests that make no branch.
+pub fn held(x: f32, size: usize) -> f32
+    requires { ⌜ (1 ≤ size) × (size ≤ 4096) ⌝ }
+    ensures { λ r. ⌜ Held x size r ⌝ }
+{
+    let low = if x < 0.0 { 0.0 } else { x };
+    let last = float::of_size(size - 1);
+    if last < low { last } else { low }
+}
+
+// A pixel's coordinate, moved and held to the plane.
+pub fn shifted(x: usize, d: f32, size: usize) -> f32
+    requires { ⌜ (x ≤ 4096) × (1 ≤ size) × (size ≤ 4096) ⌝ }
+    ensures { λ r. ⌜ Held (float x ⊕ d) size r ⌝ }
+{
+    held(float::of_size(x) + d, size)
+}
+
+// The two columns or rows around a point of the plane. The point is cut once.
+pub fn between(x: f32, size: usize) -> Taps
+    requires { ⌜ (cut x < size) × (size ≤ 4096) ⌝ }
+    ensures { λ r. ⌜ Within (around x size) size r ⌝ }
+{
+    let first = whole(x);
+    Taps {
+        first,
+        second: after(first, size),
+        share: x - float::of_size(first),
+    }
+}
+
+// A byte of a plane as a float.
+pub fn at(raw: &[u8], pitch: usize, x: usize, y: usize) -> f32
+    requires { ⌜ (x ≤ 65536) × (y ≤ 65536) × (pitch ≤ 65536) × (y * pitch + x < length (now raw)) ⌝ }
+    ensures { λ r. ⌜ r ≡ atOf (record { bytes = now (raw .entry); pitch = pitch }) x y ⌝ }
+{
+    let k = plane::place(y, pitch, x);
+    float::of_byte(raw[k])
+}
+
+// Two bytes of a row, mixed.
+fn sample_row(raw: &[u8], pitch: usize, across: Taps, y: usize, width: usize, height: usize) -> f32
+    requires { ⌜ PlaneFits (now raw) pitch width height × (across .first < width) × (across .second < width) × (y < height) ⌝ }
+    ensures { λ r. ⌜ r ≡ sampledRow (record { bytes = now (raw .entry); pitch = pitch }) across y ⌝ }
+{
+    let m = at(raw, pitch, across.first, y);
+    let n = at(raw, pitch, across.second, y);
+    float::mix(m, n, across.share)
+}
+
+// The plane between four pixels, along the row first.
+pub fn sample_at(
+    raw: &[u8],
+    pitch: usize,
+    across: Taps,
+    down: Taps,
+    width: usize,
+    height: usize,
+) -> f32
+    requires { ⌜ PlaneFits (now raw) pitch width height × (across .first < width) × (across .second < width) × (down .first < height) × (down .second < height) ⌝ }
+    ensures { λ r. ⌜ r ≡ sampledAt (record { bytes = now (raw .entry); pitch = pitch }) across down ⌝ }
+{
+    let upper = sample_row(raw, pitch, across, down.first, width, height);
+    let lower = sample_row(raw, pitch, across, down.second, width, height);
+    float::mix(upper, lower, down.share)
+}
+
+// The plane at a point of it.
+pub fn sample(raw: &[u8], pitch: usize, x: f32, y: f32, width: usize, height: usize) -> f32
+    requires { ⌜ PlaneFits (now raw) pitch width height × (cut x < width) × (cut y < height) ⌝ }
+    ensures { λ r. ⌜ r ≡ sampleOf (record { bytes = now (raw .entry); pitch = pitch }) x y (width, height) ⌝ }
+{
+    let across = between(x, width);
+    let down = between(y, height);
+    sample_at(raw, pitch, across, down, width, height)
+}

@@ -1,0 +1,3 @@
+-- Laws of the call.
+pub mod Runs
+pub mod Ends

@@ -1,0 +1,2 @@
+-- Laws of the table.
+pub mod Table

@@ -1,0 +1,2 @@
+-- Laws of tables that are stored entry by entry.
+pub mod Laws

@@ -1,0 +1,1 @@
+// Tables that are stored entry by entry: specs/ and proofs/.

@@ -1,0 +1,2 @@
+-- Laws of the terms.
+pub mod Apart

@@ -1,0 +1,29 @@
+-- `terms::is_apart` meets its contract. Assumes nothing.
+use borrow.Author.Needs.{needs}
+use native.Mathlib.Omega.{arith}
+use lib.Ieee.{lt, neg}
+use Rattle.rules.specs.Literals.{24·0}
+use Rattle.rules.specs.Float.{_⊖_}
+use Rattle.terms.proofs.Apart.{bit, both-signs}
+use Rattle.terms.proofs.is_apart.Statement.{statement}
+use Rattle.terms.proofs.is_apart.Tie as tie
+
+past-requires : tie.Need-past-requires
+past-requires c κs = search needs
+
+past-requires-2 : tie.Need-past-requires-2
+past-requires-2 c κs = search needs
+
+add-result : tie.Need-add-result
+add-result c =
+    let d = c .before .before .args .a ⊖ c .before .before .args .b in
+    let p = bit (lt 24·0 d) in
+    let q = bit (lt 24·0 (neg d)) in
+    omega (arith, c .past2 .ensures, c .before .past .ensures)
+
+returns : tie.Need-returns
+returns c =
+    rw (c .past2 .ensures, c .before .past .ensures) (both-signs (c .before .before .args .a ⊖ c .before .before .args .b))
+
+pub is-apart-spec : {M : Type 1} → statement M
+is-apart-spec = tie.close (tie.spec past-requires past-requires-2 add-result returns)
