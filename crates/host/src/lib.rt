@@ -5,7 +5,7 @@ ghost use mathlib.Core.Path.{_≡_};
 ghost use Rattle.rules.specs.Forms.{uncounted};
 ghost use Rattle.rules.specs.Calls.{StatsCall, DistancesCall, MaskCall, ApplyCall, HoldCall};
 ghost use Rattle.rules.specs.Refusals.{statsRefusal, distancesRefusal, maskRefusal, applyRefusal, holdRefusal};
-ghost use Rattle.rules.specs.Float.{pixel as pixelOf, cut as cutOf};
+ghost use Rattle.rules.specs.Float.{pixel as pixelOf, cut as cutOf, stored as storedOf};
 ghost use Rattle.rules.specs.Distances.{distancesLeaves};
 ghost use Rattle.rules.specs.Stats.{statsLeaves};
 ghost use Rattle.rules.specs.Still.{maskLeaves, applyLeaves, holdLeaves};
@@ -176,7 +176,7 @@ pub extern "C" fn safeteal_stats(
     ))
 }
 
-// The final rounding and the cut by themselves, for a run over all floats.
+// The final rounding, the cut and the storing by themselves, for a run over all floats.
 #[no_mangle]
 pub extern "C" fn safeteal_pixel(value: f32) -> u64
     ensures { λ r. ⌜ r ≡ pixelOf value ⌝ }
@@ -189,4 +189,11 @@ pub extern "C" fn safeteal_cut(value: f32) -> u64
     ensures { λ r. ⌜ r ≡ cutOf value ⌝ }
 {
     float::cut(value) as u64
+}
+
+#[no_mangle]
+pub extern "C" fn safeteal_stored(value: f32, scale: f32) -> i16
+    ensures { λ r. ⌜ r ≡ storedOf value scale ⌝ }
+{
+    float::fixed(value, scale)
 }

@@ -1,0 +1,143 @@
+//! Makes the two things this package stands on: the proved library, and the Rust to hold it against.
+//!
+//! `SAFETEAL_LIB` names a folder with a finished libhost.a; without it `rt staticlib host` is run.
+//! `SAFETEAL_ORACLE` names a folder with layer.rs and still.rs; without it the shared folder beside the project is read.
+
+use std::env;
+use std::fs;
+use std::path::{Path, PathBuf};
+use std::process::Command;
+
+/// Constructors and read access, appended to the copy of layer.rs. The text above them stays byte for byte.
+const TAIL: &str = r"
+impl Stats {
+    pub fn from_raw(luma: Vec<[f32; 6]>, chroma: [Vec<[f32; 2]>; 2], count: f32) -> Self {
+        Self { luma, chroma, count }
+    }
+
+    pub fn luma(&self) -> &[[f32; 6]] {
+        &self.luma
+    }
+
+    pub fn chroma(&self) -> [&[[f32; 2]]; 2] {
+        [&self.chroma[0], &self.chroma[1]]
+    }
+
+    pub fn count(&self) -> f32 {
+        self.count
+    }
+}
+
+pub type Found = Option<((f32, f32), std::ops::Range<usize>)>;
+
+pub fn window_at(parts: [Option<&Stats>; 3], at: usize, limit: f32, proof: f32, strict: bool) -> Found {
+    window(parts, at, limit, proof, strict)
+}
+
+pub fn is_set(model: (f32, f32)) -> bool {
+    set(model)
+}
+
+pub fn pixel_of(value: f32) -> u8 {
+    pixel(value)
+}
+";
+
+fn main() {
+    println!("cargo:rerun-if-changed=build.rs");
+    println!("cargo:rustc-check-cfg=cfg(oracle_absent)");
+    let root =
+        PathBuf::from(env::var("CARGO_MANIFEST_DIR").expect("cargo names the package's folder"));
+    let root = root
+        .parent()
+        .expect("the package stands in the project's root");
+    let out = PathBuf::from(env::var("OUT_DIR").expect("cargo names the folder of made files"));
+    link(root);
+    oracle(root, &out);
+}
+
+/// Links libhost.a, making it first where no finished one is named.
+fn link(root: &Path) {
+    println!("cargo:rerun-if-env-changed=SAFETEAL_LIB");
+    let folder = match env::var_os("SAFETEAL_LIB") {
+        Some(folder) => {
+            let folder = PathBuf::from(folder);
+            println!(
+                "cargo:rerun-if-changed={}",
+                folder.join("libhost.a").display()
+            );
+            folder
+        }
+        None => {
+            println!("cargo:rerun-if-changed={}", root.join("crates").display());
+            println!(
+                "cargo:rerun-if-changed={}",
+                root.join("crates.txt").display()
+            );
+            prove(root);
+            root.join("target/staticlib")
+        }
+    };
+    if !folder.join("libhost.a").is_file() {
+        stop(&format!("there is no libhost.a in {}", folder.display()));
+    }
+    println!("cargo:rustc-link-search=native={}", folder.display());
+    println!("cargo:rustc-link-lib=static=host");
+}
+
+/// Proves the crate `host` and writes target/staticlib/libhost.a in the project's root.
+fn prove(root: &Path) {
+    let run = Command::new("rt")
+        .args(["staticlib", "host"])
+        .current_dir(root)
+        .output();
+    match run {
+        Err(error) => stop(&format!(
+            "the Rattle toolchain's command `rt` could not be started ({error}).\n\
+             Install the Rattle kit so that `rt` is on the PATH, or set SAFETEAL_LIB to a folder with a finished libhost.a."
+        )),
+        Ok(run) if !run.status.success() => stop(&format!(
+            "`rt staticlib host` failed ({}):\n{}{}",
+            run.status,
+            String::from_utf8_lossy(&run.stdout),
+            String::from_utf8_lossy(&run.stderr)
+        )),
+        Ok(_) => {}
+    }
+}
+
+/// Copies the Rust into the folder of made files, or says by `oracle_absent` that it is not at hand.
+fn oracle(root: &Path, out: &Path) {
+    println!("cargo:rerun-if-env-changed=SAFETEAL_ORACLE");
+    let folder = env::var_os("SAFETEAL_ORACLE").map_or_else(
+        || root.join("../shared/docs/src/crates/svpflow-core/src"),
+        PathBuf::from,
+    );
+    let (layer, still) = (folder.join("layer.rs"), folder.join("still.rs"));
+    println!("cargo:rerun-if-changed={}", layer.display());
+    println!("cargo:rerun-if-changed={}", still.display());
+    let (Ok(layer), Ok(still)) = (fs::read_to_string(&layer), fs::read_to_string(&still)) else {
+        println!("cargo:rustc-cfg=oracle_absent");
+        return;
+    };
+    let (copy, unchanged) = (out.join("layer.rs"), out.join("still.rs"));
+    write(&copy, &(layer + TAIL));
+    write(&unchanged, &still);
+    // layer.rs opens with an inner attribute, so it can only be a file module of its own.
+    write(
+        &out.join("oracle.rs"),
+        &format!("#[path = {copy:?}]\npub mod layer;\n#[path = {unchanged:?}]\npub mod still;\n"),
+    );
+}
+
+fn write(path: &Path, text: &str) {
+    if let Err(error) = fs::write(path, text) {
+        stop(&format!("{} could not be written: {error}", path.display()));
+    }
+}
+
+/// Ends the build with words instead of a backtrace.
+fn stop(words: &str) -> ! {
+    eprintln!("safeteal: {words}");
+    std::process::exit(1)
+}

@@ -1,0 +1,97 @@
+//! The Markdown table, and its place in docs/BENCHMARK.md.
+
+use std::fs;
+use std::io;
+use std::path::Path;
+use std::time::{SystemTime, UNIX_EPOCH};
+
+use super::Measured;
+
+pub const HEAD: &str = "\
+| Call | Workload | Size | Ours, ns per pixel | Rust, ns per pixel | Ours / Rust | Rounds |
+|---|---|---|---|---|---|---|
+";
+
+pub fn row(call: &str, workload: &str, size: (usize, usize), measured: &Measured) -> String {
+    format!(
+        "| {call} | {workload} | {}×{} | {:.2} | {:.2} | {:.2} | {} |\n",
+        size.0,
+        size.1,
+        measured.ours,
+        measured.rust,
+        measured.ours / measured.rust,
+        measured.rounds,
+    )
+}
+
+/// The heading of a run: its date and the processor.
+pub fn heading() -> String {
+    let days = SystemTime::now()
+        .duration_since(UNIX_EPOCH)
+        .map_or(0, |time| time.as_secs() / 86_400);
+    let (year, month, day) = date(days);
+    format!("## {year}-{month:02}-{day:02}, {}", processor())
+}
+
+/// The civil date of a day counted from 1970-01-01.
+fn date(mut days: u64) -> (u64, usize, u64) {
+    let leap = |year: u64| year % 4 == 0 && (year % 100 != 0 || year % 400 == 0);
+    let mut year = 1970;
+    while days >= 365 + u64::from(leap(year)) {
+        days -= 365 + u64::from(leap(year));
+        year += 1;
+    }
+    let february = 28 + u64::from(leap(year));
+    let months = [31, february, 31, 30, 31, 30, 31, 31, 30, 31, 30, 31];
+    let mut month = 0;
+    while days >= months[month] {
+        days -= months[month];
+        month += 1;
+    }
+    (year, month + 1, days + 1)
+}
+
+fn processor() -> String {
+    let text = fs::read_to_string("/proc/cpuinfo").unwrap_or_default();
+    let model = text
+        .lines()
+        .find_map(|line| line.strip_prefix("model name"));
+    model.map_or("an unknown processor".to_owned(), |rest| {
+        rest.trim_start_matches([' ', '\t', ':']).trim().to_owned()
+    })
+}
+
+const INTRO: &str = "\
+# Benchmark
+
+Each call against the Rust on one thread, both built for release, on the same inputs in one run: ours, the Rust, ours, the
+Rust, and the median of each. Outputs are not cleared between rounds. The Rust allocates what it returns, ours writes
+into lent slices. Made by `cargo run --release --bin bench -- --write` in host/.
+";
+
+/// Puts a section into the file, in place of one with the same heading.
+pub fn write(file: &Path, heading: &str, table: &str) -> io::Result<()> {
+    let old = fs::read_to_string(file).unwrap_or_else(|_| INTRO.to_owned());
+    let mut parts = old.split("\n## ");
+    let mut text = parts.next().unwrap_or_default().trim_end().to_owned() + "\n";
+    let kept = parts.filter(|part| !heading.ends_with(part.lines().next().unwrap_or_default()));
+    for part in kept {
+        text += &format!("\n## {}\n", part.trim_end());
+    }
+    if let Some(folder) = file.parent() {
+        fs::create_dir_all(folder)?;
+    }
+    fs::write(file, text + &format!("\n{heading}\n\n{table}"))
+}
+
+#[cfg(test)]
+mod tests {
+    use super::date;
+
+    #[test]
+    fn dates() {
+        assert_eq!(date(0), (1970, 1, 1));
+        assert_eq!(date(11_016), (2000, 2, 29));
+        assert_eq!(date(20_454), (2026, 1, 1));
+    }
+}

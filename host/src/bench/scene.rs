@@ -1,0 +1,135 @@
+//! Frames, motion and layers that the workloads are made of: the same at every run.
+
+use crate::check::rng::Rng;
+use crate::oracle::layer as rust;
+
+/// Luma pixels per chroma pixel in all workloads with chroma.
+pub const RATIO: usize = 2;
+
+/// A textured picture, moved by so many pixels, with a little noise.
+pub fn frame(width: usize, height: usize, moved: usize, seed: u64) -> Vec<u8> {
+    let mut noise = Rng::of(seed, "frame", 0).bytes(width * height);
+    for (at, byte) in noise.iter_mut().enumerate() {
+        let (x, y) = (at % width + moved, at / width + moved / 2);
+        let wave = ((x * 3 + y) % 97 + (x + y * 5) % 61) as u8;
+        *byte = wave
+            .wrapping_add(*byte % 5)
+            .saturating_add(((x / 31 + y / 17) % 60) as u8);
+    }
+    noise
+}
+
+/// A picture whose lower right part has moved since the other.
+pub fn partly_moved(width: usize, height: usize) -> (Vec<u8>, Vec<u8>) {
+    let (first, moved) = (frame(width, height, 0, 1), frame(width, height, 9, 2));
+    let mut second = first.clone();
+    for (at, byte) in second.iter_mut().enumerate() {
+        let (x, y) = (at % width, at / width);
+        if x * 3 > width && y * 3 > height {
+            *byte = moved[at];
+        }
+    }
+    (first, second)
+}
+
+/// What the lettering of a layer is.
+#[derive(Clone, Copy)]
+pub enum Lettering {
+    /// A logo in a corner: about 437 of 32,400 cells at 1920 by 1080.
+    Logo,
+    /// Every pixel, gain 0.55.
+    All,
+    /// Every pixel, gain 0.07: nothing can be lifted, and every ring fails.
+    Opaque,
+    /// None.
+    None,
+}
+
+/// The logo's pixels: 23 by 19 cells at 1920 by 1080.
+fn in_logo(x: usize, y: usize, width: usize, height: usize) -> bool {
+    let (wide, high) = ((width * 23).div_ceil(240), (height * 19).div_ceil(135));
+    let (left, top) = (width * 4 / 5, height / 12);
+    (left..left + wide).contains(&x) && (top..top + high).contains(&y)
+}
+
+impl Lettering {
+    /// Gain, offset and the two chroma offsets of a pixel.
+    pub fn model(self, at: usize, width: usize, height: usize) -> (f32, f32, [f32; 2]) {
+        match self {
+            Lettering::Logo if in_logo(at % width, at / width, width, height) => {
+                (0.6, 92.0 + (at % 7) as f32, [50.0, 51.0])
+            }
+            Lettering::All => (0.55, 20.0, [50.0, 51.0]),
+            Lettering::Opaque => (0.07, 200.0, [120.0, 119.0]),
+            Lettering::Logo | Lettering::None => (1.0, 0.0, [0.0; 2]),
+        }
+    }
+
+    /// The cells that hold lettering are 0, others 255.
+    pub fn cover(self, width: usize, height: usize) -> Vec<u8> {
+        let across = width.div_ceil(8);
+        let mut cover = vec![255; across * height.div_ceil(8)];
+        for at in 0..width * height {
+            if self.model(at, width, height).0 != 1.0 {
+                cover[at / width / 8 * across + at % width / 8] = 0;
+            }
+        }
+        cover
+    }
+
+    /// The layer as the Rust assembles it, distances made.
+    pub fn fitted(self, width: usize, height: usize) -> rust::Fit {
+        let mut cover = self.cover(width, height);
+        rust::distances(&mut cover, width.div_ceil(8));
+        rust::assemble(
+            (width, height),
+            RATIO,
+            |at| self.model(at, width, height),
+            &cover,
+        )
+    }
+}
+
+/// How the blocks move.
+#[derive(Clone, Copy)]
+pub enum Moves {
+    None,
+    Smooth,
+    Noisy,
+}
+
+/// Motion over 16 by 16 blocks at quarter pixels.
+pub struct Fields {
+    fields: [Vec<u16>; 4],
+    grid: (usize, usize),
+}
+
+impl Fields {
+    pub fn new(moves: Moves, width: usize, height: usize) -> Self {
+        let grid = (width.div_ceil(16), height.div_ceil(16));
+        let mut rng = Rng::of(3, "motion", 0);
+        let fields = [6, -3, -6, 3].map(|drift: i64| {
+            let mut value = |at: usize| match moves {
+                Moves::None => 1024,
+                Moves::Smooth => {
+                    1024 + drift * 4 + (at % grid.0 / 8) as i64 - (at / grid.0 / 8) as i64
+                }
+                Moves::Noisy => 1024 + rng.between(-90, 90),
+            };
+            (0..grid.0 * grid.1).map(|at| value(at) as u16).collect()
+        });
+        Self { fields, grid }
+    }
+
+    pub fn rust(&self) -> rust::Motion<'_> {
+        let [a, b, c, d] = &self.fields;
+        rust::Motion {
+            forward: (a, b),
+            backward: (c, d),
+            grid: self.grid,
+            block: (16, 16),
+            origin: (0, 0),
+            pel: 4,
+        }
+    }
+}

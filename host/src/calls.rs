@@ -1,0 +1,22 @@
+//! The calls, a file for each. A call that is a method of a layer or of sums needs its first line only.
+
+mod distances;
+pub use distances::distances;
+
+mod mask;
+pub use mask::{mask, Limits};
+
+mod apply;
+pub use apply::apply;
+
+mod hold;
+pub use hold::hold;
+
+
+
+
+mod stats;
+pub use stats::stats;
+
+
+

@@ -1,0 +1,77 @@
+use crate::answer::done;
+use crate::{ffi, Mask, Plane, PlaneMut, Refusal, Size};
+
+/// Weighs held bytes into the output: where the mask's bytes under a pixel are not all 255, the rest of their weight
+/// goes to the held byte.
+///
+/// ```
+/// use safeteal::{hold, Mask, Plane, PlaneMut, Size};
+///
+/// let mut output = [100];
+/// let plane = PlaneMut { data: &mut output, pitch: 1 };
+/// let held = Plane { data: &[200], pitch: 1 };
+/// hold(plane, held, Size::new(1, 1), Mask { data: &[128], width: 1 })?;
+/// assert_eq!(output, [150]);
+/// # Ok::<(), safeteal::Refusal>(())
+/// ```
+///
+/// # Errors
+/// [`Refusal::Size`], [`Refusal::Ratio`] for a mask without a whole step of 1 to 8, [`Refusal::Pitch`],
+/// [`Refusal::Length`].
+pub fn hold(
+    output: PlaneMut<'_>,
+    held: Plane<'_>,
+    size: Size,
+    mask: Mask<'_>,
+) -> Result<(), Refusal> {
+    done(ffi::hold::call(
+        output.data,
+        output.pitch,
+        held.data,
+        held.pitch,
+        size.width,
+        size.height,
+        mask.data,
+        mask.width,
+    ))
+}
+
+#[cfg(test)]
+mod tests {
+    use super::*;
+
+    fn held(mask: &[u8]) -> Result<u8, Refusal> {
+        let mut output = [100];
+        let plane = PlaneMut {
+            data: &mut output,
+            pitch: 1,
+        };
+        let kept = Plane {
+            data: &[200],
+            pitch: 1,
+        };
+        hold(
+            plane,
+            kept,
+            Size::new(1, 1),
+            Mask {
+                data: mask,
+                width: 1,
+            },
+        )?;
+        Ok(output[0])
+    }
+
+    #[test]
+    fn one_cell() {
+        assert_eq!(held(&[128]), Ok(150));
+        assert_eq!(held(&[255]), Ok(100));
+        assert_eq!(held(&[0]), Ok(200));
+    }
+
+    #[test]
+    fn a_mask_without_a_step_is_refused() {
+        assert_eq!(held(&[]), Err(Refusal::Ratio));
+        assert_eq!(held(&[0; 9]), Err(Refusal::Ratio));
+    }
+}

@@ -1,0 +1,57 @@
+use crate::answer::done;
+use crate::{ffi, Refusal, Size};
+
+/// What [`mask`] takes for standing still. Any floats are accepted.
+#[derive(Clone, Copy, Debug)]
+pub struct Limits {
+    /// The largest change of a byte, in 255ths.
+    pub limit: f32,
+    /// The least detail worth comparing, in 255ths.
+    pub edge: f32,
+    /// The part of the detail that may differ.
+    pub tolerance: f32,
+}
+
+impl Default for Limits {
+    /// 4.5 and 5 of 255, and 30 of 100.
+    fn default() -> Self {
+        Self {
+            limit: (4.5 / 255.0) as f32,
+            edge: (5.0 / 255.0) as f32,
+            tolerance: (30.0 / 100.0) as f32,
+        }
+    }
+}
+
+/// Marks with 1 each pixel that stands still between two planes of one pitch, with 0 each other one.
+///
+/// ```
+/// use safeteal::{mask, Limits, Size};
+///
+/// let (first, second) = ([10, 10, 10, 200, 200], [10, 10, 10, 90, 90]);
+/// let mut still = [9; 5];
+/// mask(&first, &second, 5, Size::new(5, 1), Limits::default(), &mut still)?;
+/// assert_eq!(still, [1, 1, 1, 0, 0]);
+/// # Ok::<(), safeteal::Refusal>(())
+/// ```
+///
+/// # Errors
+/// [`Refusal::Size`], [`Refusal::Pitch`], [`Refusal::Length`]: `still` is exactly one byte for each pixel.
+pub fn mask(
+    first: &[u8],
+    second: &[u8],
+    pitch: usize,
+    size: Size,
+    limits: Limits,
+    still: &mut [u8],
+) -> Result<(), Refusal> {
+    let (width, height) = (size.width, size.height);
+    let Limits {
+        limit,
+        edge,
+        tolerance,
+    } = limits;
+    done(ffi::mask::call(
+        first, second, pitch, width, height, limit, edge, tolerance, still,
+    ))
+}

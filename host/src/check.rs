@@ -1,0 +1,37 @@
+//! The differential run: every call against the Rust, on inputs made at random, at boundaries and with damage.
+//!
+//! A call's own file says what the call is lent, how a good input is made, which refusal the table gives, and what the
+//! Rust leaves behind. All else (damage, comparing, shrinking, showing, storing) is one piece of code for all calls.
+
+#[macro_use]
+pub mod lent;
+
+pub mod case;
+pub mod damage;
+pub mod expected;
+pub mod inputs;
+pub mod layer;
+pub mod motion;
+pub mod rng;
+pub mod run;
+pub mod show;
+pub mod shrink;
+pub mod stored;
+
+pub mod apply;
+pub mod distances;
+pub mod hold;
+pub mod mask;
+pub mod stats;
+
+pub use case::Case;
+pub use run::Call;
+
+/// Every call that is compared. The stored list names a call by its number here, which therefore never changes.
+pub const CALLS: &[Call] = &[
+    Call::of::<distances::Distances>(0),
+    Call::of::<mask::Mask>(1),
+    Call::of::<apply::Apply>(2),
+    Call::of::<hold::Hold>(3),
+    Call::of::<stats::Stats>(9),
+];

@@ -1,0 +1,128 @@
+use super::case::Case;
+use super::expected::{
+    plane_bytes, whole_mask, wrong_pitch, wrong_size, wrong_step, wrong_time, Length,
+};
+use super::inputs::{near, pitch, plane, plane_sizes, time};
+use super::rng::Rng;
+use crate::{ffi, oracle};
+
+lent! {
+    pub struct Apply {
+        output: Vec<u8>,
+        output_pitch: usize,
+        first: Vec<u8>,
+        second: Vec<u8>,
+        pitch: usize,
+        width: usize,
+        height: usize,
+        still: Vec<u8>,
+        still_width: usize,
+        time: f32,
+    }
+}
+
+impl Case for Apply {
+    const NAME: &'static str = "apply";
+    const NUMBERS: &'static [usize] = &[0, 1, 2, 3, 4, 6];
+    const WRITTEN: &'static [&'static str] = &["output"];
+
+    fn random(rng: &mut Rng) -> Self {
+        let (width, height) = plane_sizes(rng, 16);
+        let (output_pitch, pitch) = (pitch(rng, width, height), pitch(rng, width, height));
+        let output = plane(rng, output_pitch, width, height);
+        let first = plane(rng, pitch, width, height);
+        let second = near(rng, &first, first.len());
+        let (across, down) = (step(rng), step(rng));
+        let still_width = across * width;
+        let length = still_width * height * down;
+        Self {
+            output,
+            output_pitch,
+            first,
+            second,
+            pitch,
+            width,
+            height,
+            still: marks(rng, length),
+            still_width,
+            time: time(rng),
+        }
+    }
+
+    fn tidy(&mut self) {
+        self.still_width = whole_mask(self.still_width, self.width, self.height).0;
+    }
+
+    fn lengths(&self) -> Vec<Length> {
+        let plane = plane_bytes(self.pitch, self.width, self.height);
+        let output = plane_bytes(self.output_pitch, self.width, self.height);
+        // A mask of a wrong length is row 2's, never row 4's.
+        let mask = whole_mask(self.still_width, self.width, self.height).1;
+        vec![output, plane, plane, mask]
+    }
+
+    fn ours(&mut self) -> u64 {
+        ffi::apply::call(
+            &mut self.output,
+            self.output_pitch,
+            &self.first,
+            &self.second,
+            self.pitch,
+            self.width,
+            self.height,
+            &self.still,
+            self.still_width,
+            self.time,
+        )
+    }
+
+    fn refusal(&self) -> u64 {
+        if wrong_size(self.width, self.height) {
+            1
+        } else if wrong_step(self.still_width, self.still.len(), self.width, self.height) {
+            2
+        } else if wrong_pitch(self.output_pitch, self.width) || wrong_pitch(self.pitch, self.width)
+        {
+            3
+        } else if self.misfits() {
+            4
+        } else if wrong_time(self.time) {
+            6
+        } else {
+            0
+        }
+    }
+
+    fn rust(&mut self) -> u64 {
+        oracle::still::apply(
+            &mut self.output,
+            self.output_pitch,
+            &self.first,
+            &self.second,
+            self.pitch,
+            self.width,
+            self.height,
+            &self.still,
+            self.still_width,
+            self.time,
+        );
+        0
+    }
+}
+
+/// A whole step of 1 to 8, mostly small.
+fn step(rng: &mut Rng) -> usize {
+    rng.pick(&[1, 1, 2, 2, 3, 4, 8])
+}
+
+/// What `mask` makes, thinner or denser; any bytes now and then.
+fn marks(rng: &mut Rng, length: usize) -> Vec<u8> {
+    let mut still = rng.bytes(length);
+    if !rng.once_in(5) {
+        let dense = rng.bits() as u8;
+        still
+            .iter_mut()
+            .for_each(|byte| *byte = u8::from(*byte < dense));
+    }
+    still
+}

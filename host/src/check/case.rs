@@ -1,0 +1,132 @@
+//! One input of one call, and the comparison of both sides on it.
+
+use super::expected::Length;
+use super::lent::{arguments, Lent, Value};
+use super::rng::Rng;
+
+/// An input of a call.
+pub trait Case: Lent + Clone + 'static {
+    /// The call's name: the C function is `safeteal_NAME`, the wrapper `ffi::NAME::call`.
+    const NAME: &'static str;
+    /// The numbers that the call can answer: a long run has to meet each of them.
+    const NUMBERS: &'static [usize];
+    /// The arguments that the call may write, by their full names.
+    const WRITTEN: &'static [&'static str];
+    /// Whether a NaN in an accepted call's floats stands for any NaN.
+    const ANY_NAN: bool = false;
+
+    /// A good input, at boundaries as well.
+    fn random(rng: &mut Rng) -> Self;
+
+    /// Damage that one argument alone cannot do.
+    fn spoil(&mut self, _rng: &mut Rng) {}
+
+    /// Brings numbers that depend on the sizes back to them, for a smaller input.
+    fn tidy(&mut self) {}
+
+    /// What each slice must have in elements, in order. Asked of damaged inputs too.
+    fn lengths(&self) -> Vec<Length>;
+
+    /// Calls the proved library.
+    fn ours(&mut self) -> u64;
+
+    /// The first fitting number of the table's rows 1 to 7, or 0.
+    fn refusal(&self) -> u64;
+
+    /// Leaves in an accepted input what the Rust leaves, and gives the rules' answer (8 is found here).
+    fn rust(&mut self) -> u64;
+
+    /// The arguments that are free after this answer.
+    fn free(_answer: u64) -> &'static [&'static str] {
+        &[]
+    }
+
+    /// Leaves what is right, and gives the right answer.
+    fn expected(&mut self) -> u64 {
+        match self.refusal() {
+            0 => self.rust(),
+            number => number,
+        }
+    }
+
+    /// Row 4: whether a slice has a wrong length.
+    fn misfits(&self) -> bool {
+        let mut actual = Vec::with_capacity(20);
+        self.measure(&mut actual);
+        let lengths = self.lengths();
+        assert_eq!(
+            actual.len(),
+            lengths.len(),
+            "{}: a length for each slice",
+            Self::NAME
+        );
+        actual
+            .iter()
+            .zip(lengths)
+            .any(|(&actual, length)| !length.holds(actual))
+    }
+}
+
+/// Where the two sides differ, in words; with the right answer.
+pub struct Compared {
+    pub answer: u64,
+    pub difference: Option<String>,
+}
+
+/// Runs both sides on copies of the input.
+pub fn compare<C: Case>(case: &C) -> Compared {
+    let (mut ours, mut right) = (case.clone(), case.clone());
+    let our_answer = ours.ours();
+    let answer = right.expected();
+    let difference = if our_answer == answer {
+        difference(&mut ours, &mut right, answer)
+    } else {
+        Some(format!(
+            "the answer is {}, not {}",
+            said(our_answer),
+            said(answer)
+        ))
+    };
+    Compared { answer, difference }
+}
+
+fn said(answer: u64) -> String {
+    format!("{answer} (number {}, count {})", answer % 256, answer / 256)
+}
+
+/// The first element of an argument that is not as it should be.
+fn difference<C: Case>(ours: &mut C, right: &mut C, answer: u64) -> Option<String> {
+    let free = C::free(answer);
+    let any_nan = C::ANY_NAN && answer % 256 == 0;
+    let pairs = arguments(ours).into_iter().zip(arguments(right));
+    for (ours, right) in pairs {
+        if free.iter().any(|name| ours.is(name)) {
+            continue;
+        }
+        if let Some(words) = unequal(&ours.value, &right.value, any_nan) {
+            return Some(format!("{}{words}", ours.full_name()));
+        }
+    }
+    None
+}
+
+fn unequal(ours: &Value, right: &Value, any_nan: bool) -> Option<String> {
+    let same =
+        |a: &f32, b: &f32| a.to_bits() == b.to_bits() || (any_nan && a.is_nan() && b.is_nan());
+    match (ours, right) {
+        (Value::Bytes(a), Value::Bytes(b)) => element(a, b, u8::eq),
+        (Value::Shorts(a), Value::Shorts(b)) => element(a, b, i16::eq),
+        (Value::Words(a), Value::Words(b)) => element(a, b, u16::eq),
+        (Value::Floats(a), Value::Floats(b)) => element(a, b, same),
+        _ => None,
+    }
+}
+
+fn element<T: std::fmt::Debug>(
+    ours: &[T],
+    right: &[T],
+    same: impl Fn(&T, &T) -> bool,
+) -> Option<String> {
+    let at = ours.iter().zip(right).position(|(a, b)| !same(a, b))?;
+    Some(format!("[{at}] is {:?}, not {:?}", ours[at], right[at]))
+}

@@ -1,0 +1,145 @@
+//! The rows of the refusal table, in whole numbers that do not wrap. Each call puts its rows together in order.
+
+/// What a slice must have.
+#[derive(Clone, Copy, Debug)]
+pub enum Length {
+    Any,
+    AtLeast(u128),
+    Exactly(u128),
+    /// So long in a good input; another length is not row 4's matter.
+    Usually(u128),
+}
+
+impl Length {
+    /// The least length of a good input.
+    pub fn least(self) -> Option<u128> {
+        match self {
+            Length::Any => None,
+            Length::AtLeast(length) | Length::Exactly(length) | Length::Usually(length) => {
+                Some(length)
+            }
+        }
+    }
+
+    pub fn holds(self, actual: usize) -> bool {
+        match self {
+            Length::Any | Length::Usually(_) => true,
+            Length::AtLeast(least) => actual as u128 >= least,
+            Length::Exactly(length) => actual as u128 == length,
+        }
+    }
+}
+
+/// Row 1: "a size outside 1..4096".
+pub fn wrong_size(width: usize, height: usize) -> bool {
+    [width, height]
+        .iter()
+        .any(|side| !(1..=4096).contains(side))
+}
+
+/// Row 1: "a plane number above 2".
+pub fn wrong_plane(plane: usize) -> bool {
+    plane > 2
+}
+
+/// Row 2: "ratio not 1, 2, 4, or not dividing a size".
+pub fn wrong_ratio(ratio: usize, width: usize, height: usize) -> bool {
+    ![1, 2, 4].contains(&ratio) || width % ratio != 0 || height % ratio != 0
+}
+
+/// Row 2: "a mask width or mask length with no whole step of 1..8".
+pub fn wrong_step(mask_width: usize, mask_length: usize, width: usize, height: usize) -> bool {
+    let step = |whole: u128, of: u128| (1..=8).any(|step| whole == step * of);
+    !step(mask_width as u128, width as u128)
+        || !step(mask_length as u128, mask_width as u128 * height as u128)
+}
+
+/// The mask width of the next whole step below, and the mask length that goes with it.
+pub fn whole_mask(mask_width: usize, width: usize, height: usize) -> (usize, Length) {
+    let step = (mask_width / width.max(1)).clamp(1, 8);
+    let mask_width = step.saturating_mul(width);
+    (
+        mask_width,
+        Length::Usually(times(mask_width as u128, height)),
+    )
+}
+
+/// Row 3: "pitches from the row's width to 65,536".
+pub fn wrong_pitch(pitch: usize, row: usize) -> bool {
+    pitch < row || pitch > 65_536
+}
+
+/// Row 5: grid sides 1 to 4096, block sides 1 to 128, origins -4096 to 4096, pel 1, 2 or 4.
+pub fn wrong_motion(grid: [usize; 2], block: [i32; 2], origin: [i32; 2], pel: i32) -> bool {
+    grid.iter().any(|side| !(1..=4096).contains(side))
+        || block.iter().any(|side| !(1..=128).contains(side))
+        || origin.iter().any(|at| !(-4096..=4096).contains(at))
+        || ![1, 2, 4].contains(&pel)
+}
+
+/// Row 6: a setting outside its range, or NaN.
+pub fn wrong_setting(value: f32, low: f32, high: f32) -> bool {
+    !(low <= value && value <= high)
+}
+
+/// Row 6: "time 0 to 1".
+pub fn wrong_time(time: f32) -> bool {
+    wrong_setting(time, 0.0, 1.0)
+}
+
+/// Luma's side over the ratio; a ratio of 0 was refused before this counts.
+pub fn over(side: usize, ratio: usize) -> usize {
+    side / ratio.max(1)
+}
+
+/// "A byte plane has at least (rows-1) times pitch plus row width bytes".
+pub fn plane_bytes(pitch: usize, row: usize, rows: usize) -> Length {
+    let above = (rows as u128).saturating_sub(1);
+    Length::AtLeast(times(above, pitch).saturating_add(row as u128))
+}
+
+/// "at least 2 times pitch times height numbers"; a byte layer has two bytes for each.
+pub fn layer_numbers(pitch: usize, rows: usize, bytes_each: usize) -> Length {
+    Length::AtLeast(times(times(2, bytes_each), pitch).saturating_mul(rows as u128))
+}
+
+/// Exactly so many elements for each of `width` times `height`.
+pub fn exactly(each: usize, width: usize, height: usize) -> Length {
+    Length::Exactly(times(times(each as u128, width), height))
+}
+
+/// "width/8 times height/8 bytes, each quotient rounded up".
+pub fn cover_bytes(width: usize, height: usize) -> Length {
+    exactly(1, width.div_ceil(8), height.div_ceil(8))
+}
+
+fn times(a: u128, b: usize) -> u128 {
+    a.saturating_mul(b as u128)
+}
+
+/// A gain or offset as it is stored: the Rust's expression in `assemble`.
+pub fn fixed(value: f32, scale: f32) -> i16 {
+    (value * scale).round().clamp(-32767.0, 32767.0) as i16
+}
+
+/// The whole-number chroma totals of plane offsets, one for each luma pixel, and whether one leaves the range (row 8).
+pub fn chroma_totals(offsets: &[f32], width: usize, ratio: usize) -> (Vec<i64>, bool) {
+    let (half, share) = (width / ratio, (ratio * ratio) as f32);
+    let mut totals = vec![0i64; offsets.len() / (ratio * ratio)];
+    for (at, &offset) in offsets.iter().enumerate() {
+        let target = (at / width / ratio) * half + (at % width) / ratio;
+        totals[target] += i64::from(fixed(offset / share, 64.0));
+    }
+    let outside = totals.iter().any(|total| i16::try_from(*total).is_err());
+    (totals, outside)
+}
+
+/// The Rust's release build wraps each total to 16 bits: a check of the totals made here against the Rust's.
+pub fn assert_wraps_to(totals: &[i64], stored: &[i16]) {
+    let wrapped: Vec<i16> = totals.iter().map(|&total| total as i16).collect();
+    assert_eq!(
+        wrapped,
+        stored[..totals.len()],
+        "the totals reckoned here are not the Rust's"
+    );
+}

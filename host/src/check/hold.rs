@@ -1,0 +1,109 @@
+use super::case::Case;
+use super::expected::{plane_bytes, whole_mask, wrong_pitch, wrong_size, wrong_step, Length};
+use super::inputs::{bytes, pitch, plane, plane_sizes};
+use super::rng::Rng;
+use crate::{ffi, oracle};
+
+lent! {
+    pub struct Hold {
+        output: Vec<u8>,
+        output_pitch: usize,
+        held: Vec<u8>,
+        held_pitch: usize,
+        width: usize,
+        height: usize,
+        mask: Vec<u8>,
+        mask_width: usize,
+    }
+}
+
+impl Case for Hold {
+    const NAME: &'static str = "hold";
+    const NUMBERS: &'static [usize] = &[0, 1, 2, 3, 4];
+    const WRITTEN: &'static [&'static str] = &["output"];
+
+    fn random(rng: &mut Rng) -> Self {
+        let (width, height) = plane_sizes(rng, 16);
+        let (output_pitch, held_pitch) = (pitch(rng, width, height), pitch(rng, width, height));
+        let steps = [1, 1, 2, 2, 3, 4, 8];
+        let mask_width = rng.pick(&steps) * width;
+        let length = mask_width * height * rng.pick(&steps);
+        Self {
+            output: plane(rng, output_pitch, width, height),
+            output_pitch,
+            held: plane(rng, held_pitch, width, height),
+            held_pitch,
+            width,
+            height,
+            mask: weights(rng, length),
+            mask_width,
+        }
+    }
+
+    fn tidy(&mut self) {
+        self.mask_width = whole_mask(self.mask_width, self.width, self.height).0;
+    }
+
+    fn lengths(&self) -> Vec<Length> {
+        let output = plane_bytes(self.output_pitch, self.width, self.height);
+        let held = plane_bytes(self.held_pitch, self.width, self.height);
+        // A mask of a wrong length is row 2's, never row 4's.
+        let mask = whole_mask(self.mask_width, self.width, self.height).1;
+        vec![output, held, mask]
+    }
+
+    fn ours(&mut self) -> u64 {
+        ffi::hold::call(
+            &mut self.output,
+            self.output_pitch,
+            &self.held,
+            self.held_pitch,
+            self.width,
+            self.height,
+            &self.mask,
+            self.mask_width,
+        )
+    }
+
+    fn refusal(&self) -> u64 {
+        if wrong_size(self.width, self.height) {
+            1
+        } else if wrong_step(self.mask_width, self.mask.len(), self.width, self.height) {
+            2
+        } else if wrong_pitch(self.output_pitch, self.width)
+            || wrong_pitch(self.held_pitch, self.width)
+        {
+            3
+        } else if self.misfits() {
+            4
+        } else {
+            0
+        }
+    }
+
+    fn rust(&mut self) -> u64 {
+        oracle::still::hold(
+            &mut self.output,
+            self.output_pitch,
+            &self.held,
+            self.held_pitch,
+            self.width,
+            self.height,
+            &self.mask,
+            self.mask_width,
+        );
+        0
+    }
+}
+
+/// Weights with many full ones, or any bytes.
+fn weights(rng: &mut Rng, length: usize) -> Vec<u8> {
+    let mut mask = bytes(rng, length);
+    if rng.once_in(2) {
+        let dense = rng.bits() as u8;
+        for byte in &mut mask {
+            *byte = if *byte <= dense { 255 } else { *byte };
+        }
+    }
+    mask
+}

@@ -1,0 +1,152 @@
+//! What a call is lent, argument by argument in the order of the C interface.
+
+/// One argument, by its type.
+pub enum Value<'a> {
+    Size(&'a mut usize),
+    Int(&'a mut i32),
+    Float(&'a mut f32),
+    Flag(&'a mut bool),
+    Bytes(&'a mut Vec<u8>),
+    Shorts(&'a mut Vec<i16>),
+    Words(&'a mut Vec<u16>),
+    Floats(&'a mut Vec<f32>),
+}
+
+/// One argument with its name; `owner` is the part or plane it belongs to, or nothing.
+pub struct Argument<'a> {
+    pub owner: &'static str,
+    pub name: &'static str,
+    pub value: Value<'a>,
+}
+
+impl Argument<'_> {
+    pub fn full_name(&self) -> String {
+        match self.owner {
+            "" => self.name.to_owned(),
+            owner => format!("{owner}_{}", self.name),
+        }
+    }
+
+    /// Whether this is the argument with that full name.
+    pub fn is(&self, full_name: &str) -> bool {
+        match self.owner {
+            "" => full_name == self.name,
+            owner => full_name
+                .strip_prefix(owner)
+                .and_then(|rest| rest.strip_prefix('_'))
+                .is_some_and(|rest| rest == self.name),
+        }
+    }
+
+    pub fn is_slice(&self) -> bool {
+        !matches!(
+            self.value,
+            Value::Size(_) | Value::Int(_) | Value::Float(_) | Value::Flag(_)
+        )
+    }
+}
+
+/// Things that are lent to a call: numbers, slices, and groups of them.
+pub trait Lent {
+    /// Adds the arguments in order. A number or a slice is called `name`; a group gives `name` to its members.
+    fn lend<'a>(
+        &'a mut self,
+        owner: &'static str,
+        name: &'static str,
+        list: &mut Vec<Argument<'a>>,
+    );
+
+    /// Adds the length of each slice in order.
+    fn measure(&self, lengths: &mut Vec<usize>);
+}
+
+/// All arguments in order.
+pub fn arguments(lent: &mut impl Lent) -> Vec<Argument<'_>> {
+    let mut list = Vec::with_capacity(40);
+    lent.lend("", "", &mut list);
+    list
+}
+
+macro_rules! number {
+    ($type:ty, $value:ident) => {
+        impl Lent for $type {
+            fn lend<'a>(
+                &'a mut self,
+                owner: &'static str,
+                name: &'static str,
+                list: &mut Vec<Argument<'a>>,
+            ) {
+                let value = Value::$value(self);
+                list.push(Argument { owner, name, value });
+            }
+
+            fn measure(&self, _: &mut Vec<usize>) {}
+        }
+    };
+}
+
+macro_rules! slice {
+    ($type:ty, $value:ident) => {
+        impl Lent for Vec<$type> {
+            fn lend<'a>(
+                &'a mut self,
+                owner: &'static str,
+                name: &'static str,
+                list: &mut Vec<Argument<'a>>,
+            ) {
+                let value = Value::$value(self);
+                list.push(Argument { owner, name, value });
+            }
+
+            fn measure(&self, lengths: &mut Vec<usize>) {
+                lengths.push(self.len());
+            }
+        }
+    };
+}
+
+number!(usize, Size);
+number!(i32, Int);
+number!(f32, Float);
+number!(bool, Flag);
+slice!(u8, Bytes);
+slice!(i16, Shorts);
+slice!(u16, Words);
+slice!(f32, Floats);
+
+/// Declares a struct of lent things in the order of the C interface.
+///
+/// A member group in brackets gives its members no name of its own: `layer` of peel has `luma`, not `layer_luma`.
+macro_rules! lent {
+    ($(#[$doc:meta])* pub struct $name:ident { $($rest:tt)* }) => {
+        lent!(@ [$(#[$doc])*] $name [] [] $($rest)*);
+    };
+    (@ $docs:tt $name:ident [$($fields:tt)*] [$($names:tt)*] [$field:ident]: $type:ty, $($rest:tt)*) => {
+        lent!(@ $docs $name [$($fields)* $field: $type,] [$($names)* ($field "")] $($rest)*);
+    };
+    (@ $docs:tt $name:ident [$($fields:tt)*] [$($names:tt)*] $field:ident: $type:ty, $($rest:tt)*) => {
+        lent!(@ $docs $name [$($fields)* $field: $type,] [$($names)* ($field stringify!($field))] $($rest)*);
+    };
+    (@ [$($docs:tt)*] $name:ident [$($field:ident: $type:ty,)*] [$(($member:ident $called:expr))*]) => {
+        $($docs)*
+        #[derive(Clone)]
+        pub struct $name { $(pub $field: $type,)* }
+
+        impl $crate::check::lent::Lent for $name {
+            fn lend<'a>(
+                &'a mut self,
+                owner: &'static str,
+                name: &'static str,
+                list: &mut Vec<$crate::check::lent::Argument<'a>>,
+            ) {
+                // A group's own name becomes the owner of its members.
+                let owner = if name.is_empty() { owner } else { name };
+                $(self.$member.lend(owner, $called, list);)*
+            }
+
+            fn measure(&self, lengths: &mut Vec<usize>) {
+                $(self.$member.measure(lengths);)*
+            }
+        }
+    };
+}

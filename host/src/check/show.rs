@@ -1,0 +1,87 @@
+//! A failing input as the text of a Rust test, to be pasted.
+
+use std::fmt::Write;
+
+use super::case::Case;
+use super::lent::{arguments, Argument, Value};
+
+/// The text of a test that makes the call on this input and asks for the right answer and the right slices.
+pub fn test<C: Case>(case: &C) -> String {
+    let mut after = case.clone();
+    let answer = after.expected();
+    let free = C::free(answer);
+    let mut text = call(case);
+    let (count, number) = (answer / 256, answer % 256);
+    let _ = writeln!(
+        text,
+        "    assert_eq!(answer, {answer}); // {count} * 256 + {number}"
+    );
+    for argument in arguments(&mut after) {
+        let name = argument.full_name();
+        let compared = C::WRITTEN.contains(&name.as_str()) && !free.contains(&name.as_str());
+        if compared {
+            let _ = writeln!(text, "    assert_eq!({name}, {});", value(&argument));
+        }
+    }
+    text + "}\n"
+}
+
+/// The test's text up to the call.
+pub fn call<C: Case>(case: &C) -> String {
+    let mut text = format!("#[test]\nfn {}_case() {{\n", C::NAME);
+    let mut call = String::new();
+    for argument in arguments(&mut case.clone()) {
+        let (name, value) = (argument.full_name(), value(&argument));
+        if C::WRITTEN.contains(&name.as_str()) {
+            let _ = writeln!(text, "    let mut {name} = {value};");
+            let _ = writeln!(call, "        &mut {name},");
+        } else if argument.is_slice() {
+            let _ = writeln!(call, "        &{value}, // {name}");
+        } else {
+            let _ = writeln!(call, "        {value}, // {name}");
+        }
+    }
+    let _ = writeln!(
+        text,
+        "    let answer = safeteal::ffi::{}::call(\n{call}    );",
+        C::NAME
+    );
+    text
+}
+
+fn value(argument: &Argument) -> String {
+    match &argument.value {
+        Value::Size(value) => value.to_string(),
+        Value::Int(value) => value.to_string(),
+        Value::Float(value) => float(**value),
+        Value::Flag(value) => value.to_string(),
+        Value::Bytes(slice) => list(slice, "u8", u8::to_string),
+        Value::Shorts(slice) => list(slice, "i16", i16::to_string),
+        Value::Words(slice) => list(slice, "u16", u16::to_string),
+        Value::Floats(slice) => list(slice, "f32", |value| float(*value)),
+    }
+}
+
+/// A float that reads back to the same bits.
+fn float(value: f32) -> String {
+    let written = format!("{value:?}");
+    let back = written.parse::<f32>().map(f32::to_bits);
+    if value.is_finite() && back == Ok(value.to_bits()) {
+        written
+    } else {
+        format!("f32::from_bits({:#x})", value.to_bits())
+    }
+}
+
+fn list<T: PartialEq>(slice: &[T], kind: &str, write: impl Fn(&T) -> String) -> String {
+    match slice {
+        [] => format!("[0 as {kind}; 0]"),
+        [first, rest @ ..] if rest.len() > 3 && rest.iter().all(|element| element == first) => {
+            format!("[{}; {}]", write(first), slice.len())
+        }
+        _ => format!(
+            "[{}]",
+            slice.iter().map(write).collect::<Vec<_>>().join(", ")
+        ),
+    }
+}

@@ -1,0 +1,155 @@
+//! The stored list of right answers, which the program crates/replay runs where no Rust is at hand.
+//!
+//! All numbers are little-endian. The file is one case after another, to its end. A case is
+//!
+//! - u32: the call's id, its number in `check::CALLS` (0 distances, 1 mask, 2 apply, 3 hold, 4 peel, 5 unpeel,
+//!   6 peel_numbers, 7 unpeel_numbers, 8 empty, 9 stats, 10 assemble, 11 fit, 12 render);
+//! - u32: how many numbers the call takes; each of them as u64, in the order of the C interface: a usize as it is, an i32
+//!   or f32 as its 32 bits, a bool as 0 or 1;
+//! - u32: how many slices it takes; each of them, in order, as u32 bytes to an element, u32 length in elements, then
+//!   its bytes (i16, u16 and f32 elements little-endian);
+//! - u64: the right answer, count * 256 + number;
+//! - for each slice that the call may write, in order, its bytes after the call: as many as it had before.
+//!
+//! Two things are free: after an answer of number 0 or 8 fit's work slices (models, kept, cover: stored as they came),
+//! and in stats the bits of a NaN (stored as the Rust made it).
+
+use super::case::Case;
+use super::damage::input;
+use super::lent::{arguments, Argument, Value};
+use super::rng::Rng;
+
+/// Cases larger than this are left out.
+const LARGE: usize = 1500;
+/// Most cases are smaller than this, so that many fit in.
+const SMALL: usize = 450;
+/// Inputs looked at for the cases of one call.
+const LOOKED_AT: u64 = 20_000;
+/// Cases of each refusal.
+const REFUSED: usize = 3;
+
+/// Cases of one call, one after another.
+#[derive(Default)]
+pub struct Stored {
+    pub bytes: Vec<u8>,
+    pub cases: usize,
+}
+
+/// Cases of one call, at most so many bytes of them: first some of each refusal, then accepted ones, a larger one
+/// after three small ones.
+pub fn record<C: Case>(id: u32, seed: u64, bytes: usize) -> Stored {
+    let mut made = Stored::default();
+    let (mut refused, mut small, mut large) = (vec![Vec::new(); 9], Vec::new(), Vec::new());
+    for index in 0..LOOKED_AT {
+        let case: C = input(&mut Rng::of(seed, C::NAME, index));
+        let number = (case.clone().expected() % 256) as usize;
+        let one = stored(id, &case);
+        let fits = one.len() <= LARGE;
+        match number {
+            0 if one.len() <= SMALL => small.push(one),
+            0 if fits => large.push(one),
+            _ if fits => refused[number].push(one),
+            _ => {}
+        }
+    }
+    let refused = refused.into_iter().flat_map(|mut cases| {
+        cases.sort_by_key(|case: &Vec<u8>| case.len() / 200);
+        cases.into_iter().take(REFUSED)
+    });
+    // Where small ones run out, the larger ones follow by themselves.
+    let mut large = large.into_iter();
+    let mut accepted = Vec::new();
+    for three in small.chunks(3) {
+        accepted.extend(three.iter().cloned().chain(large.next()));
+    }
+    accepted.extend(large);
+    for one in refused.chain(accepted) {
+        if made.bytes.len() + one.len() > bytes {
+            break;
+        }
+        made.cases += 1;
+        made.bytes.extend(one);
+    }
+    made
+}
+
+/// One case in the file's form.
+fn stored<C: Case>(id: u32, case: &C) -> Vec<u8> {
+    let (mut before, mut after) = (case.clone(), case.clone());
+    let answer = after.expected();
+    let free = C::free(answer);
+    let (slices, numbers): (Vec<_>, Vec<_>) = arguments(&mut before)
+        .into_iter()
+        .partition(Argument::is_slice);
+    let mut made = Vec::new();
+    count(&mut made, id as usize);
+    count(&mut made, numbers.len());
+    numbers
+        .iter()
+        .for_each(|argument| number(&mut made, &argument.value));
+    count(&mut made, slices.len());
+    for argument in &slices {
+        let (width, bytes) = bytes(&argument.value);
+        count(&mut made, width);
+        count(&mut made, bytes.len() / width);
+        made.extend(bytes);
+    }
+    made.extend(answer.to_le_bytes());
+    let after: Vec<_> = arguments(&mut after)
+        .into_iter()
+        .filter(Argument::is_slice)
+        .collect();
+    for (before, after) in slices.iter().zip(&after) {
+        let written = C::WRITTEN.iter().any(|name| before.is(name));
+        let free = free.iter().any(|name| before.is(name));
+        if written {
+            made.extend(bytes(if free { &before.value } else { &after.value }).1);
+        }
+    }
+    made
+}
+
+fn count(made: &mut Vec<u8>, count: usize) {
+    let count = u32::try_from(count).expect("a stored case is small");
+    made.extend(count.to_le_bytes());
+}
+
+fn number(made: &mut Vec<u8>, value: &Value) {
+    let bits = match value {
+        Value::Size(value) => **value as u64,
+        Value::Int(value) => u64::from(**value as u32),
+        Value::Float(value) => u64::from(value.to_bits()),
+        Value::Flag(value) => u64::from(**value),
+        _ => unreachable!("a slice is no number"),
+    };
+    made.extend(bits.to_le_bytes());
+}
+
+/// Bytes to an element, and all bytes of a slice.
+fn bytes(value: &Value) -> (usize, Vec<u8>) {
+    match value {
+        Value::Bytes(slice) => (1, slice.to_vec()),
+        Value::Shorts(slice) => (
+            2,
+            slice
+                .iter()
+                .flat_map(|number| number.to_le_bytes())
+                .collect(),
+        ),
+        Value::Words(slice) => (
+            2,
+            slice
+                .iter()
+                .flat_map(|number| number.to_le_bytes())
+                .collect(),
+        ),
+        Value::Floats(slice) => (
+            4,
+            slice
+                .iter()
+                .flat_map(|number| number.to_le_bytes())
+                .collect(),
+        ),
+        _ => unreachable!("a number is no slice"),
+    }
+}

@@ -1,0 +1,12 @@
+//! The C interface of the proved library: for each function its declaration and one safe function over it.
+//!
+//! No other module of this package has unsafe code. A slice passes as a pointer and a length in elements; an empty
+//! slice's pointer is dangling but aligned and not null. Every function answers `count * 256 + number`.
+#![allow(unsafe_code, clippy::too_many_arguments)]
+
+pub mod apply;
+pub mod distances;
+pub mod hold;
+pub mod mask;
+pub mod scalars;
+pub mod stats;

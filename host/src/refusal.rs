@@ -1,0 +1,126 @@
+use std::fmt;
+
+/// Why a call was refused. A refused call has changed none of the slices lent to it (the work slices of `fit` after
+/// `ChromaTotal` excepted).
+///
+/// Where several reasons hold, the one with the lowest number is given.
+///
+/// ```
+/// use safeteal::{distances, Refusal};
+///
+/// let refusal = distances(&mut [0, 255], 0).unwrap_err();
+/// assert_eq!(refusal, Refusal::Size);
+/// assert_eq!(refusal.number(), 1);
+/// println!("{refusal}");
+/// ```
+#[derive(Clone, Copy, Debug, PartialEq, Eq, Hash)]
+#[non_exhaustive]
+#[repr(u8)]
+pub enum Refusal {
+    /// 1: a width or height outside 1 to 4096.
+    Size = 1,
+    /// 2: a ratio other than 1, 2 or 4, or one that does not divide a size; or a mask without a whole step.
+    Ratio = 2,
+    /// 3: a pitch below its row's width or above 65,536.
+    Pitch = 3,
+    /// 4: a slice of a wrong length.
+    Length = 4,
+    /// 5: a motion number outside its range.
+    Motion = 5,
+    /// 6: a time, limit or evidence figure outside its range, or NaN.
+    Setting = 6,
+    /// 7: a number of pairs outside its range.
+    Pairs = 7,
+    /// 8: a chroma offset total that does not fit into 16 bits.
+    ChromaTotal = 8,
+}
+
+impl Refusal {
+    const ALL: [Refusal; 8] = [
+        Refusal::Size,
+        Refusal::Ratio,
+        Refusal::Pitch,
+        Refusal::Length,
+        Refusal::Motion,
+        Refusal::Setting,
+        Refusal::Pairs,
+        Refusal::ChromaTotal,
+    ];
+
+    /// The refusal's number, 1 to 8.
+    #[must_use]
+    pub const fn number(self) -> u8 {
+        self as u8
+    }
+
+    /// What an answer's number means; none for 0, which is acceptance.
+    ///
+    /// # Panics
+    /// For a number that no call gives: then this package and the linked library do not belong together.
+    pub(crate) fn from_number(number: u64) -> Option<Self> {
+        if number == 0 {
+            return None;
+        }
+        let known = Self::ALL
+            .into_iter()
+            .find(|refusal| u64::from(refusal.number()) == number);
+        assert!(
+            known.is_some(),
+            "the linked library answered {number}, which is no number of a refusal"
+        );
+        known
+    }
+}
+
+impl fmt::Display for Refusal {
+    fn fmt(&self, f: &mut fmt::Formatter<'_>) -> fmt::Result {
+        f.write_str(match self {
+            Refusal::Size => {
+                "a width or height is outside 1 to 4096, or there is no such plane: \
+                 give the sizes of luma (of the plane itself to mask, apply and hold; to distances a width above 0)"
+            }
+            Refusal::Ratio => {
+                "the ratio is not 1, 2 or 4, or does not divide width and height: give luma pixels per chroma pixel \
+                 (to apply and hold: a mask 1 to 8 times as wide and as high as the plane, of exactly that length)"
+            }
+            Refusal::Pitch => {
+                "a pitch is below the width of its plane's row or above 65,536: give the distance between two row starts"
+            }
+            Refusal::Length => {
+                "a slice has a wrong length: a plane needs (rows - 1) * pitch + width bytes, a layer slice \
+                 2 * pitch * rows numbers, and sums, models, covers, masks, motion fields and outputs exactly their length"
+            }
+            Refusal::Motion => {
+                "a motion number is outside its range: grid sides 1 to 4096, block sides 1 to 128, \
+                 origins -4096 to 4096, pel 1, 2 or 4"
+            }
+            Refusal::Setting => {
+                "a setting is NaN or outside its range: time 0 to 1, limit 0.5 to 255, evidence figure 0 to 65,536"
+            }
+            Refusal::Pairs => {
+                "a part holds 1 to 12 pairs: start a new part after twelve, and fit none that has no pair"
+            }
+            Refusal::ChromaTotal => {
+                "a chroma offset total is outside -32768 to 32767: the colour cast is too strong to be stored; \
+                 fit with another evidence figure or another limit"
+            }
+        })
+    }
+}
+
+impl std::error::Error for Refusal {}
+
+#[cfg(test)]
+mod tests {
+    use super::Refusal;
+
+    #[test]
+    fn numbers_and_names_agree() {
+        assert_eq!(Refusal::from_number(0), None);
+        for (index, refusal) in Refusal::ALL.into_iter().enumerate() {
+            assert_eq!(usize::from(refusal.number()), index + 1);
+            assert_eq!(Refusal::from_number(index as u64 + 1), Some(refusal));
+            assert!(!refusal.to_string().is_empty());
+        }
+    }
+}

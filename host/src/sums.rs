@@ -1,0 +1,78 @@
+use crate::layer::measured;
+use crate::{Refusal, Size};
+
+/// The sums of up to twelve pairs, to read: six numbers for each luma pixel, two for each pixel of a chroma plane.
+#[derive(Clone, Copy, Debug)]
+pub struct Part<'a> {
+    /// Exactly six numbers for each luma pixel.
+    pub luma: &'a [f32],
+    /// Exactly two numbers for each pixel of the plane.
+    pub chroma: [&'a [f32]; 2],
+    /// Pairs summed, 1 to 12; 0 marks an absent neighbour.
+    pub pairs: usize,
+}
+
+impl Part<'_> {
+    /// An absent neighbour.
+    pub const ABSENT: Part<'static> = Part {
+        luma: &[],
+        chroma: [&[], &[]],
+        pairs: 0,
+    };
+}
+
+/// Sums with slices of their own.
+#[derive(Clone, Debug, PartialEq)]
+pub struct Sums {
+    pub(crate) luma: Vec<f32>,
+    pub(crate) chroma: [Vec<f32>; 2],
+    pub(crate) pairs: usize,
+    pub(crate) size: Size,
+    pub(crate) ratio: usize,
+}
+
+impl Sums {
+    /// Sums of no pair yet.
+    ///
+    /// # Errors
+    /// [`Refusal::Size`] and [`Refusal::Ratio`], as in every call.
+    pub fn new(size: Size, ratio: usize) -> Result<Self, Refusal> {
+        let pixels = measured(size, ratio)?;
+        let plane = vec![0.0; 2 * (pixels / (ratio * ratio))];
+        Ok(Self {
+            luma: vec![0.0; 6 * pixels],
+            chroma: [plane.clone(), plane],
+            pairs: 0,
+            size,
+            ratio,
+        })
+    }
+
+    /// The sums to read, with their number of pairs.
+    #[must_use]
+    pub fn part(&self) -> Part<'_> {
+        Part {
+            luma: &self.luma,
+            chroma: [&self.chroma[0], &self.chroma[1]],
+            pairs: self.pairs,
+        }
+    }
+
+    /// How many pairs were added.
+    #[must_use]
+    pub fn pairs(&self) -> usize {
+        self.pairs
+    }
+
+    /// The size of luma.
+    #[must_use]
+    pub fn size(&self) -> Size {
+        self.size
+    }
+
+    /// Luma pixels per chroma pixel, each way.
+    #[must_use]
+    pub fn ratio(&self) -> usize {
+        self.ratio
+    }
+}
