@@ -4,6 +4,7 @@ pub mod report;
 pub mod scene;
 
 pub mod apply;
+pub mod assemble;
 pub mod distances;
 pub mod hold;
 pub mod mask;
@@ -18,6 +19,7 @@ pub const CALLS: &[&[Workload]] = &[
     apply::WORKLOADS,
     hold::WORKLOADS,
     stats::WORKLOADS,
+    assemble::WORKLOADS,
 ];
 
 /// The sizes of luma, and how many rounds each gets at most.

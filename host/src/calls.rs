@@ -18,5 +18,7 @@ pub use hold::hold;
 mod stats;
 pub use stats::stats;
 
+mod assemble;
+pub use assemble::assemble;
 
 

@@ -19,6 +19,7 @@ pub mod shrink;
 pub mod stored;
 
 pub mod apply;
+pub mod assemble;
 pub mod distances;
 pub mod hold;
 pub mod mask;
@@ -34,4 +35,5 @@ pub const CALLS: &[Call] = &[
     Call::of::<apply::Apply>(2),
     Call::of::<hold::Hold>(3),
     Call::of::<stats::Stats>(9),
+    Call::of::<assemble::Assemble>(10),
 ];

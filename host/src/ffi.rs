@@ -5,6 +5,7 @@
 #![allow(unsafe_code, clippy::too_many_arguments)]
 
 pub mod apply;
+pub mod assemble;
 pub mod distances;
 pub mod hold;
 pub mod mask;

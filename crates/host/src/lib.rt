@@ -3,13 +3,14 @@
 use rules::Answer;
 ghost use mathlib.Core.Path.{_≡_};
 ghost use Rattle.rules.specs.Forms.{uncounted};
-ghost use Rattle.rules.specs.Calls.{StatsCall, DistancesCall, MaskCall, ApplyCall, HoldCall};
+ghost use Rattle.rules.specs.Calls.{StatsCall, AssembleCall, DistancesCall, MaskCall, ApplyCall, HoldCall};
 ghost use Rattle.rules.specs.Refusals.{statsRefusal, distancesRefusal, maskRefusal, applyRefusal, holdRefusal};
 ghost use Rattle.rules.specs.Float.{pixel as pixelOf, cut as cutOf, stored as storedOf};
 ghost use Rattle.rules.specs.Distances.{distancesLeaves};
+ghost use Rattle.rules.specs.Assembly.{assembleRefusal, assembleLeaves};
 ghost use Rattle.rules.specs.Stats.{statsLeaves};
 ghost use Rattle.rules.specs.Still.{maskLeaves, applyLeaves, holdLeaves};
-ghost use Rattle.host.specs.Lent.{plane as planeOf, mask as maskOf, frames as framesOf, motion as motionOf, part as partOf, pairOf};
+ghost use Rattle.host.specs.Lent.{plane as planeOf, mask as maskOf, frames as framesOf, motion as motionOf, part as partOf, pairOf, stored as fitOf};
 ghost use Rattle.host.specs.Told.{Told, ToldThree};
 
 // An answer without a count.
@@ -174,6 +175,22 @@ pub extern "C" fn safeteal_stats(
         origin_y,
         pel,
     ))
+}
+
+#[no_mangle]
+pub extern "C" fn safeteal_assemble(
+    width: usize,
+    height: usize,
+    ratio: usize,
+    models: &[f32],
+    cover: &[u8],
+    luma: &mut [i16],
+    chroma1: &mut [i16],
+    chroma2: &mut [i16],
+) -> u64
+    ensures { λ r. ⌜ (let c : AssembleCall = record { size = (width, height); ratio = ratio; models = now (models .entry); cover = now (cover .entry); output = fitOf (now (luma .entry)) (now (chroma1 .entry)) (now (chroma2 .entry)) } in ToldThree (uncounted (assembleRefusal c)) (assembleLeaves c .luma) (assembleLeaves c .chroma) (now (luma .exit)) (now (chroma1 .exit)) (now (chroma2 .exit)) r) ⌝ }
+{
+    number(assemble::assemble(luma, chroma1, chroma2, width, height, ratio, models, cover))
 }
 
 // The final rounding, the cut and the storing by themselves, for a run over all floats.

@@ -1,0 +1,113 @@
+// Assembly: models and a cover as the numbers of a layer.
+use offsets::Grid;
+use rules::Answer;
+ghost use mathlib.Core.Path.{_≡_};
+ghost use mathlib.Core.Bool.{true};
+ghost use Prim.Native.Nat.{_*_, _/_};
+ghost use Rattle.rules.specs.Domain.{areSizes};
+ghost use Rattle.rules.specs.Refusals.{firstFitting, assembleTable};
+ghost use Rattle.offsets.specs.Grid.{Formed, modelsLong};
+ghost use Rattle.store.specs.Entries.{coverLong, Room};
+ghost use Rattle.assemble.specs.Call.{gridOf, callOf, Assembled, Done};
+
+// A width and a height.
+pub fn sizes(width: usize, height: usize) -> bool
+    ensures { λ r. ⌜ r ≡ areSizes (width, height) ⌝ }
+{
+    plane::both(plane::sized(width), plane::sized(height))
+}
+
+// Chroma's width and height with luma's.
+pub fn grid(width: usize, height: usize, ratio: usize) -> Grid
+    ensures { λ r. ⌜ r ≡ gridOf width height ratio ⌝ }
+{
+    Grid {
+        width,
+        height,
+        ratio,
+        half: plane::divided(width, ratio),
+        rows: plane::divided(height, ratio),
+    }
+}
+
+// The number of the refusal, or 0, before the totals are looked at.
+fn refusal(
+    luma: &[i16],
+    chroma1: &[i16],
+    chroma2: &[i16],
+    width: usize,
+    height: usize,
+    ratio: usize,
+    models: &[f32],
+    cover: &[u8],
+) -> u8
+    ensures { λ r. ⌜ r ≡ firstFitting (assembleTable (callOf (now (luma .entry)) (now (chroma1 .entry)) (now (chroma2 .entry)) width height ratio (now (models .entry)) (now (cover .entry))) true) ⌝ }
+{
+    let first = sizes(width, height);
+    let second = plane::ratioed(ratio, width, height);
+    let third = table::exact(models.len(), 4, width, height);
+    let fourth = table::exact_cover(cover.len(), width, height);
+    let fifth = table::exact_planes(
+        luma.len(),
+        chroma1.len(),
+        chroma2.len(),
+        2,
+        width,
+        height,
+        ratio,
+    );
+    plane::unless(
+        1,
+        first,
+        plane::unless(
+            2,
+            second,
+            plane::unless(
+                4,
+                third,
+                plane::unless(4, fourth, plane::unless(4, fifth, 0)),
+            ),
+        ),
+    )
+}
+
+// Stores the layer, unless a total does not fit: 8, or 0.
+pub fn assembled(
+    luma: &mut [i16],
+    chroma1: &mut [i16],
+    chroma2: &mut [i16],
+    g: Grid,
+    models: &[f32],
+    cover: &[u8],
+) -> u8
+    requires { ⌜ Formed g × modelsLong (now models) g × coverLong (now cover) g × Room (now luma) (now chroma1) (now chroma2) g ⌝ }
+    ensures { λ r. ⌜ Assembled g (now (models .entry)) (now (cover .entry)) (now (luma .entry)) (now (chroma1 .entry)) (now (chroma2 .entry)) (now (luma .exit)) (now (chroma1 .exit)) (now (chroma2 .exit)) r ⌝ }
+{
+    if offsets::totals_fit(g, models) {
+        store::store(luma, chroma1, chroma2, g, models, cover);
+        return 0;
+    }
+    8
+}
+
+// Assembles, or refuses: the contract is the equation for both.
+pub fn assemble(
+    luma: &mut [i16],
+    chroma1: &mut [i16],
+    chroma2: &mut [i16],
+    width: usize,
+    height: usize,
+    ratio: usize,
+    models: &[f32],
+    cover: &[u8],
+) -> Answer
+    ensures { λ r. ⌜ Done (callOf (now (luma .entry)) (now (chroma1 .entry)) (now (chroma2 .entry)) width height ratio (now (models .entry)) (now (cover .entry))) (now (luma .exit)) (now (chroma1 .exit)) (now (chroma2 .exit)) r ⌝ }
+{
+    let number = refusal(luma, chroma1, chroma2, width, height, ratio, models, cover);
+    if number != 0 {
+        return Answer { number, count: 0 };
+    }
+    let g = grid(width, height, ratio);
+    let number = assembled(luma, chroma1, chroma2, g, models, cover);
+    Answer { number, count: 0 }
+}

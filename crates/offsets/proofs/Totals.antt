@@ -1,0 +1,86 @@
+-- The totals as they are summed are the rules' totals. Assumes nothing.
+use mathlib.Core.Path.{_≡_, refl, sym, ap, _∙_}
+use mathlib.Core.Logic.{_⊎_, inl, inr, ⊎-elim}
+use mathlib.Core.Bool.{_&&_}
+use mathlib.Core.List.{List}
+use Prim.Native.Nat.{ℕ, zero, suc, _+_, _-_, _*_, _/_, _%_, _≤_, _<_}
+use native.Mathlib.Nat.{add-assoc, suc-mul, mul-le-mul, mul-comm, eq-or-lt-of-le}
+use native.Mathlib.Numerals.{add-one}
+use native.Mathlib.Omega.{arith}
+use lib.IntN.{ℤ, pos, natAbs, _+ℤ_}
+use lib.ListN.{length, getD}
+use lib.Ieee.{Float, nan}
+use Rattle.rules.specs.Forms.{turns, all, scanRow, scan}
+use Rattle.rules.specs.Float.{_⊘_, float}
+use Rattle.rules.specs.Model.{Fitted}
+use Rattle.rules.specs.Assembly.{storedOffset, offsetOf, modelSlice, chromaTotal, totalsFit}
+use Rattle.table.proofs.Turns.{turns-same}
+use Rattle.table.proofs.Models.{model-at}
+use Rattle.offsets.specs.declared.Grid.{Grid}
+use Rattle.offsets.specs.Grid.{Formed, modelsLong, Block, RowFits, termOf, rowTotal, blockTotal, pointFits, fitsBelow}
+use Rattle.offsets.proofs.Signed.{row-size}
+use Rattle.table.proofs.Places.{row-of, column-of}
+use Rattle.offsets.proofs.Places.{luma-place}
+
+-- the offset of plane 1 or 2 in a model slice
+pub offset-at : (s : List Float) (pixels plane at : ℕ) → (1 ≤ plane) × (plane ≤ 2) → at < pixels
+    → offsetOf (modelSlice s pixels) plane at ≡ getD s (at * 4 + (1 + plane)) nan
+offset-at s pixels plane at is inside = go (eq-or-lt-of-le (is .1))
+  where
+    go : (plane ≡ 2) ⊎ (plane < 2) → offsetOf (modelSlice s pixels) plane at ≡ getD s (at * 4 + (1 + plane)) nan
+    go (inl e) = rw (e, model-at s pixels at inside)
+    go (inr h) = let e : plane ≡ 1 = omega arith in rw (e, model-at s pixels at inside)
+
+-- a total as it is summed
+module _ (g : Grid) (f : Formed g) (s : List Float) (plane x y : ℕ) (b : Block g plane x y) where
+  abbrev pixels : ℕ
+  pixels = g .width * g .height
+
+  abbrev share : Float
+  share = float (g .ratio * g .ratio)
+
+  term-is : (dx dy : ℕ) → dx < g .ratio → dy < g .ratio
+      → termOf s plane share ((y * g .ratio + dy) * g .width + x * g .ratio + dx)
+      ≡ storedOffset (offsetOf (modelSlice s pixels) plane ((y * g .ratio + dy) * g .width + (x * g .ratio + dx)) ⊘ share) .0
+  unfolding termOf
+  term-is dx dy across down =
+      rw (offset-at s pixels plane ((y * g .ratio + dy) * g .width + (x * g .ratio + dx)) (b .plane-is) (luma-place g f x y dx dy (b .left) (b .above) across down), add-assoc ((y * g .ratio + dy) * g .width) (x * g .ratio) dx)
+
+  pub total-is : blockTotal s plane share (g .width) (g .ratio) x y (g .ratio) ≡ chromaTotal (modelSlice s pixels) (g .width) (g .ratio) plane (y * g .half + x)
+  unfolding chromaTotal scan scanRow blockTotal rowTotal
+  total-is =
+      rw (← f .half-is, row-of y x (g .half) (b .left), column-of y x (g .half) (b .left))
+      (turns-same _ _ (g .ratio) (λ dy down. turns-same _ _ (g .ratio) (λ dx across t. ap (λ (z : ℤ). t +ℤ z) (term-is dx dy across down))) (pos 0))
+
+-- what a row of the block asks
+module _ (g : Grid) (f : Formed g) (s : List Float) (long : modelsLong s g) (plane x y dy : ℕ) (b : Block g plane x y) (down : dy < g .ratio) where
+  size : (n : ℕ) → natAbs (blockTotal s plane (float (g .ratio * g .ratio)) (g .width) (g .ratio) x y n) ≤ n * (g .ratio * 32767)
+  unfolding turns blockTotal
+  size zero = omega arith
+  size (suc n) =
+      omega (arith, size n, row-size s plane (float (g .ratio * g .ratio)) ((y * g .ratio + n) * g .width + x * g .ratio) (g .ratio) (blockTotal s plane (float (g .ratio * g .ratio)) (g .width) (g .ratio) x y n), suc-mul n (g .ratio * 32767))
+
+  pub row-asks : (t : ℤ) → t ≡ blockTotal s plane (float (g .ratio * g .ratio)) (g .width) (g .ratio) x y dy
+      → RowFits s ((y * g .ratio + dy) * g .width + x * g .ratio) (g .ratio) plane t
+  row-asks t e =
+      let r = f .ratio in
+      let h = size dy in
+      let few : dy * (g .ratio * 32767) ≤ 4 * (4 * 32767) = mul-le-mul {n₂ = 4} {m₂ = 4 * 32767} (omega arith) (omega arith) in
+      let p = luma-place g f x y (g .ratio - 1) dy (b .left) (b .above) (omega arith) down in
+      record {
+        inside = omega arith;
+        plane-is = b .plane-is;
+        small = r .1;
+        few = rw e (omega arith);
+      }
+
+-- ---- whether all of them fit
+
+-- an entry more
+pub fits-more : (models : List Fitted) (width ratio n m : ℕ) → fitsBelow models width ratio (n + m) && pointFits models width ratio (n + m) ≡ fitsBelow models width ratio (n + (m + 1))
+unfolding turns all fitsBelow
+fits-more models width ratio n m = rw (← add-assoc n m 1, add-one)
+
+pub fits-all : (g : Grid) (f : Formed g) (models : List Fitted) → fitsBelow models (g .width) (g .ratio) (g .rows * g .half) ≡ totalsFit models (g .width, g .height) (g .ratio)
+unfolding totalsFit fitsBelow
+fits-all g f models = rw (← f .half-is, ← f .rows-is, mul-comm (g .half) (g .rows))

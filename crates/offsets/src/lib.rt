@@ -1,0 +1,125 @@
+// The totals of chroma offsets: each summed whole, and whether all of them fit.
+use rules::Offset;
+ghost use mathlib.Core.Path.{_≡_};
+ghost use mathlib.Core.Bool.{_&&_};
+ghost use Prim.Native.Nat.{_+_, _*_, _<_, _≤_};
+ghost use lib.IntN.{pos, negℤ};
+ghost use lib.ListN.{length};
+ghost use Rattle.rules.specs.Domain.{spans};
+ghost use Rattle.rules.specs.Assembly.{storedOffset, modelSlice, chromaTotal, totalsFit};
+ghost use Rattle.offsets.specs.Grid.{Formed, modelsLong, termOf, rowTotal, RowFits, Block, pointFits, fitsBelow};
+
+// Luma's width and height, the ratio, and chroma's width and height.
+pub struct Grid {
+    pub width: usize,
+    pub height: usize,
+    pub ratio: usize,
+    pub half: usize,
+    pub rows: usize,
+}
+
+// An offset as it is stored.
+pub fn stored_offset(value: f32) -> Offset
+    ensures { λ r. ⌜ r ≡ storedOffset value ⌝ }
+{
+    Offset(float::fixed(value, 64.0))
+}
+
+// What luma pixel `at` adds to a total of plane 1 or 2.
+fn term(models: &[f32], at: usize, plane: usize, share: f32) -> i32
+    requires { ⌜ at * 4 + (1 + plane) < length (now models) ⌝ }
+    ensures { λ r. ⌜ r ≡ termOf (now (models .entry)) plane share at ⌝ }
+{
+    let o = stored_offset(models[at * 4 + (1 + plane)] / share);
+    o.0 as i32
+}
+
+// A row of a block, added to a total.
+fn total_row(
+    models: &[f32],
+    place: usize,
+    ratio: usize,
+    plane: usize,
+    share: f32,
+    total: i32,
+) -> i32
+    requires { ⌜ RowFits (now models) place ratio plane total ⌝ }
+    ensures { λ r. ⌜ r ≡ rowTotal (now (models .entry)) plane share place ratio total ⌝ }
+{
+    let mut t = total;
+    let mut dx = 0;
+    while dx < ratio {
+        t = t + term(models, place + dx, plane, share);
+        dx += 1;
+    }
+    t
+}
+
+// The total of a chroma pixel of plane 1 or 2, summed whole.
+pub fn chroma_total(g: Grid, models: &[f32], plane: usize, x: usize, y: usize) -> i32
+    requires { ⌜ Formed g × modelsLong (now models) g × Block g plane x y ⌝ }
+    ensures { λ r. ⌜ r ≡ chromaTotal (modelSlice (now (models .entry)) (g .width * g .height)) (g .width) (g .ratio) plane (y * g .half + x) ⌝ }
+{
+    let ratio = g.ratio;
+    let share = float::of_size(ratio * ratio);
+    let mut t = 0;
+    let mut dy = 0;
+    while dy < ratio {
+        let place = plane::place(
+            plane::place(y, ratio, dy),
+            g.width,
+            plane::place(x, ratio, 0),
+        );
+        t = total_row(models, place, ratio, plane, share, t);
+        dy += 1;
+    }
+    t
+}
+
+// Whether a total is a number that a layer stores.
+fn in_range(total: i32) -> bool
+    ensures { λ r. ⌜ r ≡ spans (negℤ (pos 32768)) (pos 32767) total ⌝ }
+{
+    plane::both(-32768 <= total, total <= 32767)
+}
+
+// Whether both totals of a chroma pixel are.
+fn point_fits(g: Grid, models: &[f32], x: usize, y: usize) -> bool
+    requires { ⌜ Formed g × modelsLong (now models) g × (x < g .half) × (y < g .rows) ⌝ }
+    ensures { λ r. ⌜ r ≡ pointFits (modelSlice (now (models .entry)) (g .width * g .height)) (g .width) (g .ratio) (y * g .half + x) ⌝ }
+{
+    plane::both(
+        in_range(chroma_total(g, models, 1, x, y)),
+        in_range(chroma_total(g, models, 2, x, y)),
+    )
+}
+
+// Whether all of a row, and `before`, are.
+fn row_fits(g: Grid, models: &[f32], y: usize, before: bool) -> bool
+    requires { ⌜ Formed g × modelsLong (now models) g × (y < g .rows) × (before ≡ fitsBelow (modelSlice (now models) (g .width * g .height)) (g .width) (g .ratio) (y * g .half)) ⌝ }
+    ensures { λ r. ⌜ r ≡ fitsBelow (modelSlice (now (models .entry)) (g .width * g .height)) (g .width) (g .ratio) (y * g .half + g .half) ⌝ }
+{
+    let half = g.half;
+    let mut fits = before;
+    let mut x = 0;
+    while x < half {
+        fits = plane::both(fits, point_fits(g, models, x, y));
+        x += 1;
+    }
+    fits
+}
+
+// Whether every total of both planes is.
+pub fn totals_fit(g: Grid, models: &[f32]) -> bool
+    requires { ⌜ Formed g × modelsLong (now models) g ⌝ }
+    ensures { λ r. ⌜ r ≡ totalsFit (modelSlice (now (models .entry)) (g .width * g .height)) (g .width, g .height) (g .ratio) ⌝ }
+{
+    let rows = g.rows;
+    let mut fits = true;
+    let mut y = 0;
+    while y < rows {
+        fits = row_fits(g, models, y, fits);
+        y += 1;
+    }
+    fits
+}

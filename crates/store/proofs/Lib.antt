@@ -1,0 +1,3 @@
+pub mod Luma
+pub mod Chroma
+pub mod Rows

@@ -1,0 +1,94 @@
+use mathlib.Core.Path.{_≡_, _∙_}
+use Prim.Native.Nat.{_+_, _*_, _≤_}
+use native.Mathlib.Nat.{add-zero}
+use native.Mathlib.Omega.{arith}
+use Rattle.store.proofs.Rows.{pixels-small, band-in, row-done}
+use borrow.Author.Needs.{needs}
+use Rattle.store.proofs.store_row.Statement.{statement}
+use Rattle.store.proofs.store_row.Tie as tie
+use Rattle.store.proofs.store_row.Reads as reads
+use Rattle.store.proofs.store_row.Lts as lts
+use Rattle.plane.proofs.place.Reads as place-reads
+use Rattle.store.proofs.chroma_run.Reads as chroma-run-reads
+use Rattle.store.proofs.luma_run.Reads as luma-run-reads
+
+-- src/lib.rt:123:9
+place-requires : tie.Need-place-requires
+place-requires c κs = search needs
+
+-- src/lib.rt:124:9
+place-requires-2 : tie.Need-place-requires-2
+place-requires-2 c κs = search needs
+
+-- the luma pixels of the row
+module _ (c : tie.After-place2) where
+  abbrev start : tie.Start
+  start = c .before .before .before .before
+
+  pub band-is : c .place2 .result ≡ start .args .g .ratio * start .args .g .width
+  band-is = c .place2 .ensures ∙ add-zero _
+
+  pub pixels-is : c .before .place .result ≡ start .args .g .width * start .args .g .height
+  pixels-is = c .before .place .ensures ∙ add-zero _
+
+  pub inside : start .args .y * c .place2 .result + c .place2 .result ≤ start .args .g .width * start .args .g .height
+  inside = band-in (start .args .g) (start .pre .0 .formed) (start .args .y) (c .place2 .result) band-is (start .pre .2)
+
+  pub few : start .args .g .width * start .args .g .height ≤ 16777216
+  few = pixels-small (start .args .g) (start .pre .0 .formed)
+
+mul-lo : tie.Need-mul-lo
+mul-lo c = omega (arith, inside c, few c)
+
+add-luma-run : tie.Need-add-luma-run
+add-luma-run c = omega (arith, inside (c .before), few (c .before))
+
+luma-run-requires : tie.Need-luma-run-requires
+luma-run-requires c κs =
+    let s = c .before .before .before .before .before in
+    let models-long = s .pre .0 .models-long in
+    let luma-long = s .pre .1 .luma-long in
+    rw (pixels-is (c .before)) (record { up = omega arith; inside = inside (c .before); models-long = omega arith; luma-long = omega arith })
+
+-- src/lib.rt:127:5
+chroma-run-requires : tie.Need-chroma-run-requires
+chroma-run-requires c κs = search needs
+
+-- src/lib.rt:128:5
+chroma-run-requires-2 : tie.Need-chroma-run-requires-2
+chroma-run-requires-2 c κs = search needs
+
+-- src/lib.rt:111:1
+same-length : tie.Need-same-length
+same-length c = search needs
+
+-- src/lib.rt:111:1
+same-length-2 : tie.Need-same-length-2
+same-length-2 c = search needs
+
+-- src/lib.rt:111:1
+same-length-3 : tie.Need-same-length-3
+same-length-3 c = search needs
+
+-- src/lib.rt:111:1
+returns : tie.Need-returns
+returns c =
+    let l = c .before .before .before .before .before .before .before in
+    let p = l .before .before in
+    row-done _ _ _ (band-is p) (pixels-is p) (l .luma-run .ensures) (c .before .before .before .before .chroma-run .ensures) (c .before .chroma-run2 .ensures)
+
+pub store-row-spec : {M : Type 1} → statement M
+store-row-spec =
+    tie.close
+    (tie.spec
+    place-requires
+    place-requires-2
+    mul-lo
+    add-luma-run
+    luma-run-requires
+    chroma-run-requires
+    chroma-run-requires-2
+    same-length
+    same-length-2
+    same-length-3
+    returns)

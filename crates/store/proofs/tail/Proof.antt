@@ -1,0 +1,50 @@
+use mathlib.Core.Path.{sym, _∙_}
+use native.Mathlib.Omega.{arith}
+use borrow.Author.Tests.{eq-eqb}
+use mir.Syntax.{w16}
+use mir.Facts.{toZ-pos}
+use Rattle.store.specs.Entries.{tailEntry}
+use Rattle.store.proofs.Chroma.{tail-is, covered}
+use borrow.Author.Needs.{needs}
+use Rattle.store.proofs.tail.Statement.{statement}
+use Rattle.store.proofs.tail.Tie as tie
+use Rattle.store.proofs.tail.Reads as reads
+use Rattle.store.proofs.tail.Lts as lts
+use Rattle.store.proofs.cell.Reads as cell-reads
+use Rattle.table.proofs.cells.Reads as cells-reads
+
+-- src/lib.rt:63:9
+returns : tie.Need-returns
+unfolding tailEntry
+returns c = sym (simp (eq-eqb _ _ (c .if1 .taken)))
+
+-- src/lib.rt:65:9
+cells-requires : tie.Need-cells-requires
+cells-requires c κs = search needs
+
+-- src/lib.rt:66:9
+cells-requires-2 : tie.Need-cells-requires-2
+cells-requires-2 c κs = search needs
+
+-- src/lib.rt:67:5
+cell-requires : tie.Need-cell-requires
+cell-requires c κs =
+    let s = c .before .before .before .before in
+    rw (c .before .cells .ensures, c .cells2 .ensures) (covered (s .args .g) (s .args .cover .now) (s .pre .0) (s .pre .1))
+
+-- src/lib.rt:67:5
+cast-result : tie.Need-cast-result
+cast-result c = search needs
+
+-- src/lib.rt:58:1
+returns-2 : tie.Need-returns-2
+returns-2 c =
+    let s = c .before .before .before .before .before in
+    let a = s .args in
+    let e = rw (c .before .before .cells .ensures, c .before .cells2 .ensures) at (c .cell .ensures) in
+    toZ-pos w16 {n = c .cell .result} (omega arith) ∙ rw e (sym (tail-is (a .cover .now) (a .g .width, a .g .height) (a .g .half) (a .plane) (a .x) (a .y) (c .before .before .before .if1 .left) (s .pre .2)))
+
+pub tail-spec : {M : Type 1} → statement M
+tail-spec =
+    tie.close
+    (tie.spec returns cells-requires cells-requires-2 cell-requires cast-result returns-2)

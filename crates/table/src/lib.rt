@@ -1,0 +1,78 @@
+// Tables: slices of which each entry is a function of its place, and their lengths.
+ghost use mathlib.Core.Path.{_≡_};
+ghost use mathlib.Core.Bool.{_&&_};
+ghost use Prim.Native.Nat.{_+_, _*_, _/_, _<_, _≤_};
+ghost use lib.Dec.{eqb};
+ghost use lib.ListN.{length, set};
+ghost use Rattle.rules.specs.Forms.{cells as cellsOf};
+ghost use Rattle.table.specs.Models.{modelPut};
+
+// How many cells lie along a side.
+pub fn cells(n: usize) -> usize
+    ensures { λ r. ⌜ r ≡ cellsOf n ⌝ }
+{
+    if n % 8 == 0 { n / 8 } else { n / 8 + 1 }
+}
+
+// A slice of this length has exactly so many entries for each place of so many rows. No product is made.
+pub fn exact(size: usize, many: usize, width: usize, height: usize) -> bool
+    requires { ⌜ 0 < many ⌝ }
+    ensures { λ r. ⌜ r ≡ eqb size (many * (width * height)) ⌝ }
+{
+    let part = size / many;
+    plane::all(
+        plane::divides(many, size),
+        plane::holds(part, width, height, 0),
+        !plane::holds(part, width, height, 1),
+    )
+}
+
+// Three slices of these lengths have so many entries per luma pixel, and two per chroma pixel.
+pub fn exact_planes(
+    luma: usize,
+    chroma1: usize,
+    chroma2: usize,
+    many: usize,
+    width: usize,
+    height: usize,
+    ratio: usize,
+) -> bool
+    requires { ⌜ 0 < many ⌝ }
+    ensures { λ r. ⌜ r ≡ (eqb luma (many * (width * height)) && eqb chroma1 (2 * (width / ratio * (height / ratio))) && eqb chroma2 (2 * (width / ratio * (height / ratio)))) ⌝ }
+{
+    let half = plane::divided(width, ratio);
+    let rows = plane::divided(height, ratio);
+    plane::all(
+        exact(luma, many, width, height),
+        exact(chroma1, 2, half, rows),
+        exact(chroma2, 2, half, rows),
+    )
+}
+
+// A cover of this length has a byte for each cell.
+pub fn exact_cover(size: usize, width: usize, height: usize) -> bool
+    ensures { λ r. ⌜ r ≡ eqb size (cellsOf width * cellsOf height) ⌝ }
+{
+    exact(size, 1, cells(width), cells(height))
+}
+
+// Entry k of the first half of a slice, and of its second.
+pub fn put_pair(slice: &mut [i16], half: usize, k: usize, first: i16, second: i16)
+    requires { ⌜ half + k < length (now slice) ⌝ }
+    ensures { λ _. ⌜ now (slice .exit) ≡ set (set (now (slice .entry)) k first) (half + k) second ⌝ }
+{
+    slice[k] = first;
+    slice[half + k] = second;
+}
+
+// The four floats of luma pixel `at`.
+pub fn put_model(models: &mut [f32], at: usize, gain: f32, offset: f32, first: f32, second: f32)
+    requires { ⌜ at * 4 + 4 ≤ length (now models) ⌝ }
+    ensures { λ _. ⌜ now (models .exit) ≡ modelPut (now (models .entry)) at gain offset first second ⌝ }
+{
+    let k = at * 4;
+    models[k] = gain;
+    models[k + 1] = offset;
+    models[k + 2] = first;
+    models[k + 3] = second;
+}
