@@ -8,7 +8,11 @@ pub mod assemble;
 pub mod distances;
 pub mod hold;
 pub mod mask;
+pub mod peel;
+pub mod peel_numbers;
 pub mod stats;
+pub mod unpeel;
+pub mod unpeel_numbers;
 
 use std::time::{Duration, Instant};
 
@@ -18,6 +22,10 @@ pub const CALLS: &[&[Workload]] = &[
     mask::WORKLOADS,
     apply::WORKLOADS,
     hold::WORKLOADS,
+    peel::WORKLOADS,
+    unpeel::WORKLOADS,
+    peel_numbers::WORKLOADS,
+    unpeel_numbers::WORKLOADS,
     stats::WORKLOADS,
     assemble::WORKLOADS,
 ];

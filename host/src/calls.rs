@@ -12,7 +12,11 @@ pub use apply::apply;
 mod hold;
 pub use hold::hold;
 
+mod peel;
+mod unpeel;
 
+mod peel_numbers;
+mod unpeel_numbers;
 
 
 mod stats;

@@ -23,7 +23,11 @@ pub mod assemble;
 pub mod distances;
 pub mod hold;
 pub mod mask;
+pub mod peel;
+pub mod peel_numbers;
 pub mod stats;
+pub mod unpeel;
+pub mod unpeel_numbers;
 
 pub use case::Case;
 pub use run::Call;
@@ -34,6 +38,10 @@ pub const CALLS: &[Call] = &[
     Call::of::<mask::Mask>(1),
     Call::of::<apply::Apply>(2),
     Call::of::<hold::Hold>(3),
+    Call::of::<peel::Peel>(4),
+    Call::of::<unpeel::Unpeel>(5),
+    Call::of::<peel_numbers::PeelNumbers>(6),
+    Call::of::<unpeel_numbers::UnpeelNumbers>(7),
     Call::of::<stats::Stats>(9),
     Call::of::<assemble::Assemble>(10),
 ];

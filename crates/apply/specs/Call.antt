@@ -3,21 +3,22 @@ use mathlib.Core.List.{List}
 use Prim.Native.Nat.{ℕ, _*_}
 use lib.Dec.{ltb}
 use lib.Ieee.{Float}
-use Rattle.rules.specs.Forms.{Plane, Frames, Rule}
+use Rattle.rules.specs.Forms.{Frames, Rule}
 use Rattle.rules.specs.Float.{mix, pixel}
 use Rattle.rules.specs.Calls.{ApplyCall}
 use Rattle.rules.specs.Reading.{at}
+use Rattle.pass.specs.Pass.{planeOf}
 use Rattle.cells.specs.Cells.{sumOf}
 
 -- two planes with one pitch
 abbrev pub framesOf : (first second : List ℕ) → (pitch : ℕ) → (time : Float) → Frames
 framesOf first second pitch time =
-    record { first = record { bytes = first; pitch = pitch }; second = record { bytes = second; pitch = pitch }; time = time }
+    record { first = planeOf first pitch; second = planeOf second pitch; time = time }
 
 abbrev pub callOf : (output : List ℕ) → (outputPitch : ℕ) → Frames → (width height : ℕ) → (still : List ℕ) → (stillWidth : ℕ) → ApplyCall
 callOf output outputPitch frames width height still stillWidth =
     record {
-      output = record { bytes = output; pitch = outputPitch };
+      output = planeOf output outputPitch;
       frames = frames;
       size = (width, height);
       mask = record { bytes = still; width = stillWidth };

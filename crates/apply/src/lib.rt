@@ -11,15 +11,23 @@ ghost use Rattle.cells.specs.Cells.{PixelCells, RowCells, PlaneCells};
 ghost use Rattle.pass.specs.Pass.{put, RowPainted, RowsPainted, Done, PixelIn, RowIn, PlaneIn};
 ghost use Rattle.apply.specs.Call.{framesOf, ruleBy, callOf};
 
-// The new byte where enough of the cells are still, else the old one.
-fn chosen(new: u8, old: u8, sum: u32, count: u32) -> u8
+// Whether enough of a pixel's cells are still.
+fn mixes(sum: u32, count: u32) -> bool
     requires { ⌜ (sum ≤ 16320) × (count ≤ 64) ⌝ }
-    ensures { λ r. ⌜ r ≡ cond (ltb (4 * count) (10 * sum)) new old ⌝ }
+    ensures { λ r. ⌜ r ≡ ltb (4 * count) (10 * sum) ⌝ }
 {
-    if 10 * sum > 4 * count { new } else { old }
+    10 * sum > 4 * count
 }
 
-// What pixel (x, y) becomes. Each is mixed, so that a row is a loop without a branch.
+// One of two bytes, without a branch of the caller's own.
+fn chosen(yes: bool, new: u8, old: u8) -> u8
+    ensures { λ r. ⌜ r ≡ cond yes new old ⌝ }
+{
+    if yes { new } else { old }
+}
+
+// What pixel (x, y) becomes. One that stays is passed over before it is mixed, or, where `skip` is
+// false, after: a row is then a loop without a branch.
 fn apply_dot(
     old: u8,
     first: &[u8],
@@ -30,18 +38,22 @@ fn apply_dot(
     across: usize,
     down: usize,
     time: f32,
+    skip: bool,
     x: usize,
     y: usize,
 ) -> u8
     requires { ⌜ PixelIn (now first) pitch x y × PixelIn (now second) pitch x y × PixelCells (now still) «still_width» across down x y ⌝ }
     ensures { λ r. ⌜ r ≡ put (ruleBy (framesOf (now (first .entry)) (now (second .entry)) pitch time) (now (still .entry)) «still_width» across down) x y old ⌝ }
 {
+    let sum = cells::byte_sum(still, still_width, across, down, x, y);
+    let yes = mixes(sum, cells::cell_count(across, down));
+    if plane::both(skip, !yes) {
+        return old;
+    }
     let k = plane::place(y, pitch, x);
     let a = float::of_byte(first[k]);
     let b = float::of_byte(second[k]);
-    let new = float::pixel(float::mix(a, b, time));
-    let sum = cells::byte_sum(still, still_width, across, down, x, y);
-    chosen(new, old, sum, cells::cell_count(across, down))
+    chosen(yes, float::pixel(float::mix(a, b, time)), old)
 }
 
 // One row.
@@ -57,6 +69,7 @@ fn apply_row(
     across: usize,
     down: usize,
     time: f32,
+    skip: bool,
     y: usize,
 )
     requires { ⌜ RowIn (now output) «output_pitch» width y × RowIn (now first) pitch width y × RowIn (now second) pitch width y × RowCells (now still) «still_width» across down width y ⌝ }
@@ -75,6 +88,7 @@ fn apply_row(
             across,
             down,
             time,
+            skip,
             x,
             y,
         );
@@ -96,6 +110,7 @@ fn apply_rows(
     across: usize,
     down: usize,
     time: f32,
+    skip: bool,
 )
     requires { ⌜ PlaneIn (now output) «output_pitch» (width, height) × PlaneIn (now first) pitch (width, height) × PlaneIn (now second) pitch (width, height) × PlaneCells (now still) «still_width» across down (width, height) ⌝ }
     ensures { λ _. ⌜ RowsPainted (ruleBy (framesOf (now (first .entry)) (now (second .entry)) pitch time) (now (still .entry)) «still_width» across down) «output_pitch» width height (now (output .entry)) (now (output .exit)) ⌝ }
@@ -114,6 +129,7 @@ fn apply_rows(
             across,
             down,
             time,
+            skip,
             y,
         );
         y += 1;
@@ -152,6 +168,7 @@ fn apply_steps(
             1,
             1,
             time,
+            false,
         );
         return;
     }
@@ -169,6 +186,7 @@ fn apply_steps(
             2,
             2,
             time,
+            false,
         );
         return;
     }
@@ -185,6 +203,7 @@ fn apply_steps(
         across,
         down,
         time,
+        true,
     );
 }
 
@@ -224,19 +243,9 @@ fn apply_refusal(
             plane::both(plane::planed(second.len(), pitch, width, height), true),
         ),
     );
-    plane::unless(
-        1,
-        sizes,
-        plane::unless(
-            2,
-            steps,
-            plane::unless(
-                3,
-                pitches,
-                plane::unless(4, lengths, plane::unless(6, timed(time), 0)),
-            ),
-        ),
-    )
+    let last = plane::unless(4, lengths, plane::unless(6, timed(time), 0));
+    let rest = plane::unless(3, pitches, last);
+    plane::unless(1, sizes, plane::unless(2, steps, rest))
 }
 
 // Applies, or refuses: the contract is the equation for both.

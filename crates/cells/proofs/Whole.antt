@@ -15,7 +15,7 @@ exact side whole =
     (λ t. let z = eqb-true (whole % side) 0 t in eq-eqb (side * (whole / side)) whole (omega arith))
     (λ t. let z = eqb-true (side * (whole / side)) whole t in eq-eqb (whole % side) 0 (omega arith))
 
--- a product that is 0 has a factor 0; the factor that is looked at is 0 where the other is
+-- of a product that is 0: a factor that is 0 where the other is, is 0
 no-rest : (a r : ℕ) → (a ≡ 0 → r ≡ 0) → a * r ≡ 0 → r ≡ 0
 no-rest zero r f e = f refl
 no-rest (suc a) r f e = omega arith

@@ -1,13 +1,13 @@
 -- Both bits of a pixel: what is stored is the answer and leaves the plane of yes and no as it was. Assumes nothing.
-use mathlib.Core.Path.{_≡_, refl, sym, ap, _∙_}
-use mathlib.Core.Bool.{Bool, true, false, cond}
+use mathlib.Core.Path.{_≡_, refl}
+use mathlib.Core.Bool.{Bool, true, false}
 use mathlib.Core.List.{List}
 use Prim.Native.Nat.{ℕ, _+_, _-_, _*_, _%_, _≤_, _<_, min}
 use native.Mathlib.Nat.{add-mul-mod-self-left, mul-le-mul-right}
 use native.Mathlib.Omega.{arith}
 use borrow.Author.Tests.{eqb-true, eqb-false}
 use lib.Dec.{eqb}
-use lib.ListN.{length, getD, set}
+use lib.ListN.{length, set}
 use lib.Seq.{getD-set-same, getD-set-other}
 use Rattle.rules.specs.Reading.{after}
 use Rattle.pass.specs.Pass.{PlaneIn}
@@ -17,10 +17,6 @@ use Rattle.corner.specs.declared.Column.{Column}
 use Rattle.corner.specs.Corner.{fullBy, stillBy, bothBits, columnOf, markOf, isOdd, Holds, RowMarked, RowsMarked, ColumnIn}
 
 -- ---- bits
-
-pub bit-low : (b : Bool) → bitOf b ≤ 1
-bit-low true = omega arith
-bit-low false = omega arith
 
 -- the lowest of two bits
 odd-both : (b : Bool) (s : ℕ) → eqb ((bitOf b + 2 * s) % 2) 1 ≡ b

@@ -1,6 +1,6 @@
 -- The answer of mask over any plane of yes and no, and the bytes that have both in two bits.
 use mathlib.Core.Path.{_≡_}
-use mathlib.Core.Bool.{Bool, cond, _&&_, _||_}
+use mathlib.Core.Bool.{Bool, _&&_, _||_}
 use mathlib.Core.List.{List}
 use Prim.Native.Nat.{ℕ, _+_, _-_, _*_, _%_, _≤_, _<_, min}
 use lib.Dec.{eqb}

@@ -1,9 +1,10 @@
 // Which pixels have a full corner: the second pass of mask, in the bytes of the first. A byte's lowest bit stays, and the answer becomes the bit above it.
 ghost use mathlib.Core.Path.{_≡_};
 ghost use mathlib.Core.Bool.{Bool, _&&_};
-ghost use Prim.Native.Nat.{ℕ, _-_, _%_, _≤_, _<_};
+ghost use Prim.Native.Nat.{ℕ, _+_, _-_, _*_, _%_, _≤_, _<_};
 ghost use lib.Dec.{eqb};
 ghost use Rattle.pass.specs.Pass.{PlaneIn};
+ghost use Rattle.same.specs.Same.{bitOf};
 ghost use Rattle.corner.specs.Corner.{isOdd, columnOf, markOf, Holds, RowMarked, RowsMarked, ColumnIn};
 
 // The pixels of a column in three rows: whether each is the same.
@@ -42,6 +43,17 @@ fn full(a: bool, b: bool, c: bool, d: bool) -> bool
     plane::both(plane::all(a, b, c), d)
 }
 
+// The lowest bit, and the answer in the bit above it.
+fn two_bits(here: bool, still: bool) -> u8
+    ensures { λ r. ⌜ r ≡ bitOf here + 2 * bitOf still ⌝ }
+{
+    if still {
+        if here { 3 } else { 2 }
+    } else {
+        same::bit(here)
+    }
+}
+
 // The two bits of a pixel, by its column and those beside it.
 fn mark(left: Column, mid: Column, right: Column) -> u8
     ensures { λ r. ⌜ r ≡ markOf left mid right ⌝ }
@@ -51,7 +63,7 @@ fn mark(left: Column, mid: Column, right: Column) -> u8
     let c = full(left.here, mid.here, left.below, mid.below);
     let d = full(mid.here, right.here, mid.below, right.below);
     let still = same::either(same::either(same::either(a, b), c), d);
-    same::bit(mid.here) + 2 * same::bit(still)
+    two_bits(mid.here, still)
 }
 
 // The column or row before k, the first repeated.

@@ -1,6 +1,6 @@
 -- A pixel's terms are added two by two, and a row's pixels one after the other.
 -- Assumes nothing.
-use mathlib.Core.Path.{_≡_, refl, sym, ap, _∙_}
+use mathlib.Core.Path.{_≡_, refl, ap, _∙_}
 use mathlib.Core.Logic.{⊎-elim}
 use mathlib.Core.List.{List}
 use Prim.Native.Nat.{ℕ, suc, _+_, _*_, _≤_, _<_}
@@ -18,7 +18,7 @@ use Rattle.motion.specs.Moves.{Carries, mixedSteps}
 use Rattle.motion.proofs.Fields.{carried-steps}
 use Rattle.terms.specs.declared.Terms.{Terms}
 use Rattle.terms.specs.Terms.{listOf, movedOf, termsBy}
-use Rattle.gather.specs.Sums.{oneAdded, twoAdded, termsAdded, Frames, rowAdded, rowsAdded, SixOrTwo}
+use Rattle.gather.specs.Sums.{twoAdded, termsAdded, Pass, rowAdded, rowsAdded, SixOrTwo}
 
 module _ (pairs : ℕ) (t : Terms) (k many : ℕ) (l m : List Float) (first : m ≡ twoAdded pairs (t .p) (t .i) k l) where
   pub two : SixOrTwo many → (many ≡ 6 → ⊥) → m ≡ termsAdded pairs many (listOf t) k l
@@ -32,19 +32,19 @@ module _ (pairs : ℕ) (t : Terms) (k many : ℕ) (l m : List Float) (first : m 
 
 -- ---- a row
 
-by-steps : (f : Frames) (x y : ℕ) → termsBy (f .first) (f .second) (steps (f .motion) (f .ratio) x y) (f .size) x y ≡ terms (f .first) (f .second) (f .motion) (f .size) (f .ratio) x y
+by-steps : (f : Pass) (x y : ℕ) → termsBy (f .first) (f .second) (steps (f .motion) (f .ratio) x y) (f .size) x y ≡ terms (f .first) (f .second) (f .motion) (f .size) (f .ratio) x y
 unfolding terms termsBy movedOf
 by-steps f x y = refl
 
 -- the terms that the columns carried to a pixel give are the definition's
-pub pixel-terms : (f : Frames) (x y : ℕ) (down : Taps) (c : Carried) (s : Steps) (ts : List Float) → down ≡ rowTaps (f .motion) (f .ratio) y
+pub pixel-terms : (f : Pass) (x y : ℕ) (down : Taps) (c : Carried) (s : Steps) (ts : List Float) → down ≡ rowTaps (f .motion) (f .ratio) y
     → Carries (f .motion) (f .ratio) down (columnTaps (f .motion) (f .ratio) x) c → s ≡ mixedSteps c
     → ts ≡ termsBy (f .first) (f .second) s (f .size) x y → ts ≡ terms (f .first) (f .second) (f .motion) (f .size) (f .ratio) x y
 pixel-terms f x y down c s ts d h e t =
     t ∙ ap (λ (z : Steps). termsBy (f .first) (f .second) z (f .size) x y) (e ∙ carried-steps (f .motion) (f .ratio) x y c (rw d at h)) ∙ by-steps f x y
 
 -- no pixel of a row yet
-pub row-none : (pairs many : ℕ) (f : Frames) (y place : ℕ) (l : List Float) → l ≡ rowAdded pairs many f y place 0 l
+pub row-none : (pairs many : ℕ) (f : Pass) (y place : ℕ) (l : List Float) → l ≡ rowAdded pairs many f y place 0 l
 unfolding rowAdded turns
 row-none pairs many f y place l = refl
 
@@ -52,7 +52,7 @@ pub first-place : (many place : ℕ) → place ≡ place + many * 0
 first-place many place = omega (arith, mul-zero many)
 
 -- the pixels of a row so far, and one more
-pub row-more : (pairs many : ℕ) (f : Frames) (y place x k : ℕ) (before l ts r : List Float) → l ≡ rowAdded pairs many f y place x before
+pub row-more : (pairs many : ℕ) (f : Pass) (y place x k : ℕ) (before l ts r : List Float) → l ≡ rowAdded pairs many f y place x before
     → k ≡ place + many * x → ts ≡ terms (f .first) (f .second) (f .motion) (f .size) (f .ratio) x y → r ≡ termsAdded pairs many ts k l
     → r ≡ rowAdded pairs many f y place (x + 1) before
 unfolding rowAdded turns
@@ -67,14 +67,14 @@ next many x place k e = let m : many * (x + 1) ≡ many * x + many = rw (add-one
 
 -- ---- rows
 
-pub rows-none : (pairs many : ℕ) (f : Frames) (l : List Float) → l ≡ rowsAdded pairs many f 0 l
+pub rows-none : (pairs many : ℕ) (f : Pass) (l : List Float) → l ≡ rowsAdded pairs many f 0 l
 unfolding rowsAdded turns
 rows-none pairs many f l = refl
 
 pub first-row : (many width : ℕ) → 0 ≡ many * (0 * width)
 first-row many width = rw (zero-mul width, mul-zero many)
 
-pub rows-more : (pairs many : ℕ) (f : Frames) (y place : ℕ) (before l r : List Float) → l ≡ rowsAdded pairs many f y before
+pub rows-more : (pairs many : ℕ) (f : Pass) (y place : ℕ) (before l r : List Float) → l ≡ rowsAdded pairs many f y before
     → place ≡ many * (y * f .size .0) → r ≡ rowAdded pairs many f y place (f .size .0) l → r ≡ rowsAdded pairs many f (y + 1) before
 unfolding rowsAdded turns
 rows-more pairs many f y place before l r so-far at more = rw (add-one y, more, at, so-far)

@@ -1,18 +1,18 @@
 -- Sums to which pixels are added one after the other, row by row, are the definition's table.
 -- Assumes nothing.
-use mathlib.Core.Path.{_≡_, refl, sym, ap, _∙_}
+use mathlib.Core.Path.{_≡_, sym, ap, _∙_}
 use mathlib.Core.List.{List}
 use Prim.Native.Nat.{ℕ, zero, suc, _+_, _*_, _/_, _%_, _≤_, _<_}
 use native.Mathlib.Nat.{add-zero, add-suc, add-assoc, mul-zero, zero-mul, mul-suc, suc-mul, mul-comm, mul-add, mul-add-div, mul-add-div-right, mul-add-mod-self-left, mul-add-mod-self-right, div-eq-of-lt, mod-eq-of-lt}
 use native.Mathlib.Omega.{arith}
-use lib.ListN.{length, getD, set}
+use lib.ListN.{length, getD}
 use lib.Ieee.{Float, nan}
-use Rattle.rules.specs.Forms.{turns, tabulate, area}
+use Rattle.rules.specs.Forms.{turns, area}
 use Rattle.rules.specs.Float.{_⊕_}
 use Rattle.rules.specs.Stats.{terms, added}
 use Rattle.tables.specs.Filled.{filled}
 use Rattle.tables.proofs.Laws.{filled-after, filled-more, filled-all}
-use Rattle.gather.specs.Sums.{startOf, oneAdded, termsAdded, Frames, rowAdded, rowsAdded}
+use Rattle.gather.specs.Sums.{startOf, oneAdded, termsAdded, Pass, rowAdded, rowsAdded}
 
 -- entry j of `many` that belong to p
 entry-of : (many p j : ℕ) → j < many → ((many * p + j) / many ≡ p) × ((many * p + j) % many ≡ j)
@@ -30,7 +30,7 @@ pixel-of width x y h =
       rw (mul-add-div-right some y x, div-eq-of-lt h, add-zero y),
     )
 
-module _ (pairs many : ℕ) (f : Frames) (old : List Float) where
+module _ (pairs many : ℕ) (f : Pass) (old : List Float) where
   abbrev width : ℕ
   width = f .size .0
 

@@ -3,9 +3,9 @@ use mathlib.Core.Path.{_≡_}
 use mathlib.Core.Logic.{_⊎_}
 use mathlib.Core.Bool.{cond}
 use mathlib.Core.List.{List}
-use Prim.Native.Nat.{ℕ, _+_, _*_, _≤_, _<_}
+use Prim.Native.Nat.{ℕ, _+_, _*_, _<_}
 use lib.Dec.{eqb}
-use lib.ListN.{length, getD, set}
+use lib.ListN.{getD, set}
 use lib.Ieee.{Float, nan}
 use Rattle.rules.specs.Forms.{Plane, Motion, turns}
 use Rattle.rules.specs.Literals.{0·0}
@@ -35,7 +35,7 @@ unfoldable pub termsAdded : (pairs many : ℕ) → (terms : List Float) → (k :
 termsAdded pairs many ts k = turns (λ j. oneAdded pairs (getD ts j nan) (k + j)) many
 
 -- a pair of planes, with the motion between them
-pub record Frames : Type 0 where
+pub record Pass : Type 0 where
   pub first : Plane
   pub second : Plane
   pub motion : Motion
@@ -43,11 +43,11 @@ pub record Frames : Type 0 where
   pub ratio : ℕ
 
 -- the first `width` pixels of row y, from place k on
-unfoldable pub rowAdded : (pairs many : ℕ) → Frames → (y k width : ℕ) → List Float → List Float
+unfoldable pub rowAdded : (pairs many : ℕ) → Pass → (y k width : ℕ) → List Float → List Float
 rowAdded pairs many f y k = turns (λ x. termsAdded pairs many (terms (f .first) (f .second) (f .motion) (f .size) (f .ratio) x y) (k + many * x))
 
 -- the first `height` rows
-unfoldable pub rowsAdded : (pairs many : ℕ) → Frames → (height : ℕ) → List Float → List Float
+unfoldable pub rowsAdded : (pairs many : ℕ) → Pass → (height : ℕ) → List Float → List Float
 rowsAdded pairs many f = turns (λ y. rowAdded pairs many f y (many * (y * f .size .0)) (f .size .0))
 
 -- six sums a pixel, or two
@@ -55,9 +55,9 @@ abbrev pub SixOrTwo : ℕ → Type 0
 SixOrTwo many = (many ≡ 6) ⊎ (many ≡ 2)
 
 -- a pair of planes and the motion, as a function is lent them
-abbrev pub framesOf : (first : List ℕ) → (firstPitch : ℕ) → (second : List ℕ) → (secondPitch : ℕ)
-    → (forwardX forwardY backwardX backwardY : List ℕ) → Grid → (width height ratio : ℕ) → Frames
-framesOf first firstPitch second secondPitch fx fy bx by g width height ratio =
+abbrev pub passOf : (first : List ℕ) → (firstPitch : ℕ) → (second : List ℕ) → (secondPitch : ℕ)
+    → (forwardX forwardY backwardX backwardY : List ℕ) → Grid → (width height ratio : ℕ) → Pass
+passOf first firstPitch second secondPitch fx fy bx by g width height ratio =
     record {
       first = record { bytes = first; pitch = firstPitch };
       second = record { bytes = second; pitch = secondPitch };
@@ -69,17 +69,17 @@ framesOf first firstPitch second secondPitch fx fy bx by g width height ratio =
 -- all of them within their limits
 pub record Gathers (first : List ℕ) (firstPitch : ℕ) (second : List ℕ) (secondPitch : ℕ)
     (forwardX forwardY backwardX backwardY : List ℕ) (g : Grid) (width height ratio : ℕ) : Type 0 where
-  pub before : PlaneFits first firstPitch width height
-  pub after : PlaneFits second secondPitch width height
+  pub first-fits : PlaneFits first firstPitch width height
+  pub second-fits : PlaneFits second secondPitch width height
   pub moves : Moves forwardX forwardY backwardX backwardY g ratio
 
 -- the grid's rows around pixel row y, and columns between them to start from
-pub record Started (f : Frames) (down : Taps) (start : Carried) (y : ℕ) : Type 0 where
+pub record Started (f : Pass) (down : Taps) (start : Carried) (y : ℕ) : Type 0 where
   pub rows : Within (rowTaps (f .motion) (f .ratio) y) (f .motion .grid .1) down
   pub holds : Holds (f .motion) (f .ratio) down start
   pub low : y < f .size .1
 
 -- one pixel is added, from place k on, and its columns are held
-pub record PixelDone (pairs many : ℕ) (f : Frames) (down : Taps) (x y k : ℕ) (before after : List Float) (c : Carried) : Type 0 where
+pub record PixelDone (pairs many : ℕ) (f : Pass) (down : Taps) (x y k : ℕ) (before after : List Float) (c : Carried) : Type 0 where
   pub sums : after ≡ termsAdded pairs many (terms (f .first) (f .second) (f .motion) (f .size) (f .ratio) x y) k before
   pub holds : Holds (f .motion) (f .ratio) down c

@@ -7,10 +7,9 @@ ghost use mathlib.Core.Path.{_≡_};
 ghost use Prim.Native.Nat.{_+_, _*_, _<_, _≤_};
 ghost use lib.ListN.{length};
 ghost use Rattle.rules.specs.Stats.{added};
-ghost use Rattle.sample.specs.Points.{PlaneFits};
-ghost use Rattle.motion.specs.Moves.{motionOf, Moves};
+ghost use Rattle.motion.specs.Moves.{motionOf};
 ghost use Rattle.terms.specs.Terms.{listOf};
-ghost use Rattle.gather.specs.Sums.{oneAdded, twoAdded, termsAdded, rowAdded, rowsAdded, SixOrTwo, Gathers, framesOf, Started, PixelDone};
+ghost use Rattle.gather.specs.Sums.{oneAdded, twoAdded, termsAdded, rowAdded, SixOrTwo, Gathers, passOf, Started, PixelDone};
 
 // Adds a term to one sum. With 0 pairs before, what the slice holds is not read.
 fn add(sums: &mut [f32], k: usize, pairs: usize, term: f32)
@@ -68,8 +67,8 @@ fn gather_pixel(
     x: usize,
     y: usize,
 ) -> Carried
-    requires { ⌜ Gathers (now first) «first_pitch» (now second) «second_pitch» (now «forward_x») (now «forward_y») (now «backward_x») (now «backward_y») grid width height ratio × SixOrTwo many × Started (framesOf (now first) «first_pitch» (now second) «second_pitch» (now «forward_x») (now «forward_y») (now «backward_x») (now «backward_y») grid width height ratio) down previous y × (x < width) × (k + many ≤ length (now sums)) ⌝ }
-    ensures { λ r. ⌜ PixelDone pairs many (framesOf (now (first .entry)) «first_pitch» (now (second .entry)) «second_pitch» (now («forward_x» .entry)) (now («forward_y» .entry)) (now («backward_x» .entry)) (now («backward_y» .entry)) grid width height ratio) down x y k (now (sums .entry)) (now (sums .exit)) r ⌝ }
+    requires { ⌜ Gathers (now first) «first_pitch» (now second) «second_pitch» (now «forward_x») (now «forward_y») (now «backward_x») (now «backward_y») grid width height ratio × SixOrTwo many × Started (passOf (now first) «first_pitch» (now second) «second_pitch» (now «forward_x») (now «forward_y») (now «backward_x») (now «backward_y») grid width height ratio) down previous y × (x < width) × (k + many ≤ length (now sums)) ⌝ }
+    ensures { λ r. ⌜ PixelDone pairs many (passOf (now (first .entry)) «first_pitch» (now (second .entry)) «second_pitch» (now («forward_x» .entry)) (now («forward_y» .entry)) (now («backward_x» .entry)) (now («backward_y» .entry)) grid width height ratio) down x y k (now (sums .entry)) (now (sums .exit)) r ⌝ }
 {
     let held = motion::carry(
         forward_x,
@@ -120,8 +119,8 @@ fn gather_pixels(
     start: Carried,
     y: usize,
 )
-    requires { ⌜ Gathers (now first) «first_pitch» (now second) «second_pitch» (now «forward_x») (now «forward_y») (now «backward_x») (now «backward_y») grid width height ratio × SixOrTwo many × Started (framesOf (now first) «first_pitch» (now second) «second_pitch» (now «forward_x») (now «forward_y») (now «backward_x») (now «backward_y») grid width height ratio) down start y × (place + many * width ≤ length (now sums)) ⌝ }
-    ensures { λ _. ⌜ now (sums .exit) ≡ rowAdded pairs many (framesOf (now (first .entry)) «first_pitch» (now (second .entry)) «second_pitch» (now («forward_x» .entry)) (now («forward_y» .entry)) (now («backward_x» .entry)) (now («backward_y» .entry)) grid width height ratio) y place width (now (sums .entry)) ⌝ }
+    requires { ⌜ Gathers (now first) «first_pitch» (now second) «second_pitch» (now «forward_x») (now «forward_y») (now «backward_x») (now «backward_y») grid width height ratio × SixOrTwo many × Started (passOf (now first) «first_pitch» (now second) «second_pitch» (now «forward_x») (now «forward_y») (now «backward_x») (now «backward_y») grid width height ratio) down start y × (place + many * width ≤ length (now sums)) ⌝ }
+    ensures { λ _. ⌜ now (sums .exit) ≡ rowAdded pairs many (passOf (now (first .entry)) «first_pitch» (now (second .entry)) «second_pitch» (now («forward_x» .entry)) (now («forward_y» .entry)) (now («backward_x» .entry)) (now («backward_y» .entry)) grid width height ratio) y place width (now (sums .entry)) ⌝ }
 {
     let mut held = start;
     let mut k = place;
@@ -175,7 +174,7 @@ fn gather_row(
     y: usize,
 )
     requires { ⌜ Gathers (now first) «first_pitch» (now second) «second_pitch» (now «forward_x») (now «forward_y») (now «backward_x») (now «backward_y») grid width height ratio × SixOrTwo many × (y < height) × (place + many * width ≤ length (now sums)) ⌝ }
-    ensures { λ _. ⌜ now (sums .exit) ≡ rowAdded pairs many (framesOf (now (first .entry)) «first_pitch» (now (second .entry)) «second_pitch» (now («forward_x» .entry)) (now («forward_y» .entry)) (now («backward_x» .entry)) (now («backward_y» .entry)) grid width height ratio) y place width (now (sums .entry)) ⌝ }
+    ensures { λ _. ⌜ now (sums .exit) ≡ rowAdded pairs many (passOf (now (first .entry)) «first_pitch» (now (second .entry)) «second_pitch» (now («forward_x» .entry)) (now («forward_y» .entry)) (now («backward_x» .entry)) (now («backward_y» .entry)) grid width height ratio) y place width (now (sums .entry)) ⌝ }
 {
     let down = motion::row_taps(grid, ratio, y);
     let across = motion::column_taps(grid, ratio, 0);

@@ -8,9 +8,6 @@ use Rattle.rules.specs.Reading.{byte}
 use Rattle.rules.specs.Still.{weighed}
 use Rattle.cells.specs.Cells.{sumOf}
 
-abbrev pub planeOf : (bytes : List ℕ) → (pitch : ℕ) → Plane
-planeOf bytes pitch = record { bytes = bytes; pitch = pitch }
-
 abbrev pub callOf : (output held : Plane) → (width height : ℕ) → (mask : List ℕ) → (maskWidth : ℕ) → HoldCall
 callOf output held width height mask maskWidth =
     record { output = output; held = held; size = (width, height); mask = record { bytes = mask; width = maskWidth } }

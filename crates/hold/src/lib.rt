@@ -5,8 +5,8 @@ ghost use Prim.Native.Nat.{_≤_};
 ghost use Rattle.rules.specs.Refusals.{holdRefusal};
 ghost use Rattle.rules.specs.Still.{weighed as weighedOf, holdLeaves};
 ghost use Rattle.cells.specs.Cells.{PixelCells, RowCells, PlaneCells};
-ghost use Rattle.pass.specs.Pass.{put, RowPainted, RowsPainted, Done, PixelIn, RowIn, PlaneIn};
-ghost use Rattle.hold.specs.Call.{planeOf, ruleBy, callOf};
+ghost use Rattle.pass.specs.Pass.{put, RowPainted, RowsPainted, Done, PixelIn, RowIn, PlaneIn, planeOf};
+ghost use Rattle.hold.specs.Call.{ruleBy, callOf};
 
 // Two bytes weighed: of the full weight, the sum is for the byte that was made.
 fn weighed(kept: u8, made: u8, sum: u32, full: u32) -> u8
@@ -189,15 +189,8 @@ fn hold_refusal(
         plane::planed(output.len(), output_pitch, width, height),
         plane::both(plane::planed(held.len(), held_pitch, width, height), true),
     );
-    plane::unless(
-        1,
-        sizes,
-        plane::unless(
-            2,
-            steps,
-            plane::unless(3, pitches, plane::unless(4, lengths, 0)),
-        ),
-    )
+    let rest = plane::unless(3, pitches, plane::unless(4, lengths, 0));
+    plane::unless(1, sizes, plane::unless(2, steps, rest))
 }
 
 // Holds, or refuses: the contract is the equation for both.

@@ -1,16 +1,21 @@
 // The C interface. Each function is a thin one over the proved call, with the whole equation as its contract: the answer, count times 256 plus the
 // number, and every element of every slice that the call may write.
+use lent::Shape;
 use rules::Answer;
 ghost use mathlib.Core.Path.{_≡_};
+ghost use Prim.Native.Nat.{_≤_};
 ghost use Rattle.rules.specs.Forms.{uncounted};
-ghost use Rattle.rules.specs.Calls.{StatsCall, AssembleCall, DistancesCall, MaskCall, ApplyCall, HoldCall};
+ghost use Rattle.rules.specs.Calls.{PeelCall, UnpeelCall, StatsCall, AssembleCall, DistancesCall, MaskCall, ApplyCall, HoldCall};
 ghost use Rattle.rules.specs.Refusals.{statsRefusal, distancesRefusal, maskRefusal, applyRefusal, holdRefusal};
 ghost use Rattle.rules.specs.Float.{pixel as pixelOf, cut as cutOf, stored as storedOf};
 ghost use Rattle.rules.specs.Distances.{distancesLeaves};
 ghost use Rattle.rules.specs.Assembly.{assembleRefusal, assembleLeaves};
+ghost use Rattle.rules.specs.Peel.{peelAnswer, peelLeaves};
+ghost use Rattle.rules.specs.Unpeel.{unpeelAnswer, unpeelLeaves};
 ghost use Rattle.rules.specs.Stats.{statsLeaves};
 ghost use Rattle.rules.specs.Still.{maskLeaves, applyLeaves, holdLeaves};
-ghost use Rattle.host.specs.Lent.{plane as planeOf, mask as maskOf, frames as framesOf, motion as motionOf, part as partOf, pairOf, stored as fitOf};
+ghost use Rattle.rules.specs.Host.{word as wordOf, numbers};
+ghost use Rattle.host.specs.Lent.{layer as layerOf, plane as planeOf, mask as maskOf, frames as framesOf, motion as motionOf, part as partOf, pairOf, stored as fitOf};
 ghost use Rattle.host.specs.Told.{Told, ToldThree};
 
 // An answer without a count.
@@ -191,6 +196,196 @@ pub extern "C" fn safeteal_assemble(
     ensures { λ r. ⌜ (let c : AssembleCall = record { size = (width, height); ratio = ratio; models = now (models .entry); cover = now (cover .entry); output = fitOf (now (luma .entry)) (now (chroma1 .entry)) (now (chroma2 .entry)) } in ToldThree (uncounted (assembleRefusal c)) (assembleLeaves c .luma) (assembleLeaves c .chroma) (now (luma .exit)) (now (chroma1 .exit)) (now (chroma2 .exit)) r) ⌝ }
 {
     number(assemble::assemble(luma, chroma1, chroma2, width, height, ratio, models, cover))
+}
+
+// An answer as one number.
+fn word(a: Answer) -> u64
+    requires { ⌜ a .count ≤ 16777216 ⌝ }
+    ensures { λ r. ⌜ r ≡ wordOf a ⌝ }
+{
+    a.count as u64 * 256 + a.number as u64
+}
+
+#[no_mangle]
+pub extern "C" fn safeteal_peel(
+    luma: &[u8],
+    chroma1: &[u8],
+    chroma2: &[u8],
+    luma_pitch: usize,
+    chroma_pitch: usize,
+    width: usize,
+    height: usize,
+    ratio: usize,
+    plane: usize,
+    output: &mut [u8],
+    output_pitch: usize,
+    raw: &[u8],
+    raw_pitch: usize,
+) -> u64
+    ensures { λ r. ⌜ (let c : PeelCall = record { layer = layerOf (numbers (now (luma .entry))) (numbers (now (chroma1 .entry))) (numbers (now (chroma2 .entry))) «luma_pitch» «chroma_pitch» width height ratio; plane = plane; output = planeOf (now (output .entry)) «output_pitch»; raw = planeOf (now (raw .entry)) «raw_pitch» } in Told (peelAnswer c) (peelLeaves c) (now (output .exit)) r) ⌝ }
+{
+    let none = [0i16; 1];
+    let s = Shape {
+        packed: true,
+        luma: luma_pitch,
+        chroma: chroma_pitch,
+        width,
+        height,
+        ratio,
+        plane,
+    };
+    word(peel::peel(
+        output,
+        output_pitch,
+        s,
+        &none,
+        luma,
+        &none,
+        chroma1,
+        &none,
+        chroma2,
+        raw,
+        raw_pitch,
+    ))
+}
+
+#[no_mangle]
+pub extern "C" fn safeteal_unpeel(
+    luma: &[u8],
+    chroma1: &[u8],
+    chroma2: &[u8],
+    luma_pitch: usize,
+    chroma_pitch: usize,
+    width: usize,
+    height: usize,
+    ratio: usize,
+    plane: usize,
+    output: &mut [u8],
+    output_pitch: usize,
+    first: &[u8],
+    first_pitch: usize,
+    second: &[u8],
+    second_pitch: usize,
+    time: f32,
+) -> u64
+    ensures { λ r. ⌜ (let c : UnpeelCall = record { layer = layerOf (numbers (now (luma .entry))) (numbers (now (chroma1 .entry))) (numbers (now (chroma2 .entry))) «luma_pitch» «chroma_pitch» width height ratio; plane = plane; output = planeOf (now (output .entry)) «output_pitch»; frames = framesOf (planeOf (now (first .entry)) «first_pitch») (planeOf (now (second .entry)) «second_pitch») time } in Told (unpeelAnswer c) (unpeelLeaves c) (now (output .exit)) r) ⌝ }
+{
+    let none = [0i16; 1];
+    let s = Shape {
+        packed: true,
+        luma: luma_pitch,
+        chroma: chroma_pitch,
+        width,
+        height,
+        ratio,
+        plane,
+    };
+    word(peel::unpeel(
+        output,
+        output_pitch,
+        s,
+        &none,
+        luma,
+        &none,
+        chroma1,
+        &none,
+        chroma2,
+        first,
+        first_pitch,
+        second,
+        second_pitch,
+        time,
+    ))
+}
+
+#[no_mangle]
+pub extern "C" fn safeteal_peel_numbers(
+    luma: &[i16],
+    chroma1: &[i16],
+    chroma2: &[i16],
+    luma_pitch: usize,
+    chroma_pitch: usize,
+    width: usize,
+    height: usize,
+    ratio: usize,
+    plane: usize,
+    output: &mut [u8],
+    output_pitch: usize,
+    raw: &[u8],
+    raw_pitch: usize,
+) -> u64
+    ensures { λ r. ⌜ (let c : PeelCall = record { layer = layerOf (now (luma .entry)) (now (chroma1 .entry)) (now (chroma2 .entry)) «luma_pitch» «chroma_pitch» width height ratio; plane = plane; output = planeOf (now (output .entry)) «output_pitch»; raw = planeOf (now (raw .entry)) «raw_pitch» } in Told (peelAnswer c) (peelLeaves c) (now (output .exit)) r) ⌝ }
+{
+    let s = Shape {
+        packed: false,
+        luma: luma_pitch,
+        chroma: chroma_pitch,
+        width,
+        height,
+        ratio,
+        plane,
+    };
+    word(peel::peel(
+        output,
+        output_pitch,
+        s,
+        luma,
+        raw,
+        chroma1,
+        raw,
+        chroma2,
+        raw,
+        raw,
+        raw_pitch,
+    ))
+}
+
+#[no_mangle]
+pub extern "C" fn safeteal_unpeel_numbers(
+    luma: &[i16],
+    chroma1: &[i16],
+    chroma2: &[i16],
+    luma_pitch: usize,
+    chroma_pitch: usize,
+    width: usize,
+    height: usize,
+    ratio: usize,
+    plane: usize,
+    output: &mut [u8],
+    output_pitch: usize,
+    first: &[u8],
+    first_pitch: usize,
+    second: &[u8],
+    second_pitch: usize,
+    time: f32,
+) -> u64
+    ensures { λ r. ⌜ (let c : UnpeelCall = record { layer = layerOf (now (luma .entry)) (now (chroma1 .entry)) (now (chroma2 .entry)) «luma_pitch» «chroma_pitch» width height ratio; plane = plane; output = planeOf (now (output .entry)) «output_pitch»; frames = framesOf (planeOf (now (first .entry)) «first_pitch») (planeOf (now (second .entry)) «second_pitch») time } in Told (unpeelAnswer c) (unpeelLeaves c) (now (output .exit)) r) ⌝ }
+{
+    let s = Shape {
+        packed: false,
+        luma: luma_pitch,
+        chroma: chroma_pitch,
+        width,
+        height,
+        ratio,
+        plane,
+    };
+    word(peel::unpeel(
+        output,
+        output_pitch,
+        s,
+        luma,
+        first,
+        chroma1,
+        first,
+        chroma2,
+        first,
+        first,
+        first_pitch,
+        second,
+        second_pitch,
+        time,
+    ))
 }
 
 // The final rounding, the cut and the storing by themselves, for a run over all floats.

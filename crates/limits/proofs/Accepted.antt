@@ -3,20 +3,19 @@
 use mathlib.Core.Path.{_≡_, refl, sym}
 use mathlib.Core.Bool.{Bool, true, false, _&&_, _||_, false≢true}
 use mathlib.Core.List.{List}
-use Prim.Native.Nat.{ℕ, zero, suc, _+_, _-_, _*_, _/_, _%_, _≤_, _<_}
+use Prim.Native.Nat.{ℕ, zero, suc, _+_, _-_, _*_, _/_, _%_, _≤_}
 use native.Mathlib.Nat.{div-add-mod', div-le-self, le-of-eq, le-trans, zero-mul}
 use native.Mathlib.Omega.{arith}
 use borrow.Author.Tests.{leb-true, eqb-true}
 use lib.Dec.{leb, eqb}
 use lib.IntN.{ℤ, pos, negsuc, natAbs}
 use lib.ListN.{length}
-use lib.Signed.{leZ}
-use Rattle.rules.specs.Forms.{Plane, area, isNumber}
+use Rattle.rules.specs.Forms.{area}
 use Rattle.rules.specs.Domain.{isSize, areSizes, isRatio, isPitch, isPlane, spans, isPel, motionLengths, motionNumbers}
 use Rattle.laws.proofs.Accepted.{both}
 use Rattle.sample.specs.Points.{PlaneFits}
 use Rattle.motion.specs.declared.Grid.{Grid}
-use Rattle.motion.specs.Moves.{motionOf, laidOut, Laid, Moves}
+use Rattle.motion.specs.Moves.{motionOf, Laid, Moves}
 
 -- ---- sizes and planes
 

@@ -4,9 +4,8 @@ ghost use mathlib.Core.Path.{_≡_};
 ghost use mathlib.Core.Bool.{_&&_, true};
 ghost use Prim.Native.Nat.{_*_, _/_};
 ghost use lib.Dec.{eqb};
-ghost use lib.ListN.{length};
-ghost use Rattle.rules.specs.Domain.{spans as spansOf, isPel, motionLengths, motionNumbers};
-ghost use Rattle.motion.specs.Moves.{motionOf, laidOut};
+ghost use Rattle.rules.specs.Domain.{spans as spansOf, isPel, motionNumbers};
+ghost use Rattle.motion.specs.Moves.{laidOut};
 
 // Each of two tests.
 pub fn each_of_two(a: bool, b: bool) -> bool

@@ -1,21 +1,21 @@
 -- A call of mask that is not refused can be run, and its three passes make the table. Assumes nothing.
-use mathlib.Core.Path.{_≡_, refl, sym, _∙_}
-use mathlib.Core.Bool.{Bool, true, false, _&&_}
-use mathlib.Core.List.{List}
-use Prim.Native.Nat.{ℕ, _+_, _-_, _*_, _/_, _%_, _≤_, _<_}
-use native.Mathlib.Nat.{add-mul-div-left, suc-mul, mul-comm}
+use mathlib.Core.Path.{_≡_, refl, _∙_}
+use mathlib.Core.Bool.{Bool, true, false}
+use mathlib.Core.List.{List, [], _∷_}
+use Prim.Native.Nat.{ℕ, _+_, _-_, _*_, _/_, _%_, _≤_}
+use native.Mathlib.Nat.{suc-mul, mul-comm}
 use native.Mathlib.Omega.{arith}
 use borrow.Author.Tests.{eqb-true}
 use lib.Dec.{eqb}
 use lib.ListN.{length, getD}
-use Rattle.rules.specs.Forms.{Plane, tabulate, each}
+use Rattle.rules.specs.Forms.{Plane, tabulate}
 use Rattle.rules.specs.Calls.{Settings}
-use Rattle.rules.specs.Domain.{areSizes, isPitch, isPlane}
+use Rattle.rules.specs.Domain.{areSizes, havePitches, haveLengths}
 use Rattle.rules.specs.Refusals.{firstFitting, maskRefusal}
 use Rattle.rules.specs.Still.{sameAt, fullCorner as full, still}
 use Rattle.pass.specs.Pass.{PlaneIn}
 use Rattle.pass.specs.Table.{RowsStored}
-use Rattle.pass.proofs.Accepted.{both, passed, sizes-in, plane-in}
+use Rattle.pass.proofs.Accepted.{passed, sizes-in, first-in}
 use Rattle.pass.proofs.Tables.{length-tabulate, getD-tabulate, is-table, table, table-length, table-at}
 use Rattle.same.specs.Same.{bitOf, sameBit}
 use Rattle.corner.specs.Corner.{fullBy, stillBy, bothBits, Holds, RowsMarked}
@@ -68,24 +68,19 @@ module _ (first second : Plane) (width height : ℕ) (s : Settings) where
   pub runs : (filled : List ℕ) → maskRefusal (callOf first second width height s filled) ≡ 0
       → PlaneIn filled width (width, height) × PlaneIn (first .bytes) (first .pitch) (width, height)
       × PlaneIn (second .bytes) (second .pitch) (width, height) × (1 ≤ width) × (length filled ≡ width * height)
-  unfolding maskRefusal firstFitting each
+  unfolding maskRefusal firstFitting
   runs filled e =
       let size : ℕ × ℕ = (width, height) in
       let a = passed 0 _ (areSizes size) e in
-      let b = passed 2 _ (isPitch (first .pitch) width && (isPitch (second .pitch) width && true)) (a .1) in
-      let c = passed 3 _ (isPlane first size && (isPlane second size && true)) (b .1) in
+      let b = passed 2 _ (havePitches (first ∷ second ∷ []) size) (a .1) in
+      let c = passed 3 _ (haveLengths (first ∷ second ∷ []) size) (b .1) in
       let d = passed 3 _ (eqb (length filled) (width * height)) (c .1) in
-      let p = both (isPitch (first .pitch) width) (isPitch (second .pitch) width && true) (b .0) in
-      let l = both (isPlane first size) (isPlane second size && true) (c .0) in
+      let p = first-in first (second ∷ []) size (a .0) (b .0) (c .0) in
+      let q = first-in second [] size (a .0) (p .1) (p .2) in
       let z = sizes-in size (a .0) in
       let long = eqb-true (length filled) (width * height) (d .0) in
-      let rows : (height - 1) * width + width ≡ width * height = rows-are height width (z .2) in (
-        record { near = (z .1, z .3); apart = omega (arith, z .1); inside = omega (arith, rows, long) },
-        plane-in (first .bytes) (first .pitch) size (a .0) (p .0) (l .0),
-        plane-in (second .bytes) (second .pitch) size (a .0) (both (isPitch (second .pitch) width) true (p .1) .0) (both (isPlane second size) true (l .1) .0),
-        z .0,
-        long,
-      )
+      let rows = rows-are height width (z .2) in
+      (record { near = (z .1, z .3); apart = omega (arith, z .1); inside = omega arith }, p .0, q .0, z .0, long)
     where
       rows-are : (h w : ℕ) → 1 ≤ h → (h - 1) * w + w ≡ w * h
       rows-are h w some =

@@ -5,10 +5,11 @@ ghost use Prim.Native.Nat.{_*_, _/_};
 ghost use lib.Dec.{eqb};
 ghost use lib.ListN.{length, getD};
 ghost use Rattle.rules.specs.Forms.{tabulate};
+ghost use Rattle.rules.specs.Calls.{Settings};
 ghost use Rattle.rules.specs.Refusals.{maskRefusal};
 ghost use Rattle.rules.specs.Still.{maskLeaves};
-ghost use Rattle.pass.specs.Pass.{Done};
-ghost use Rattle.same.specs.Same.{planeOf, settingsOf};
+ghost use Rattle.pass.specs.Pass.{Done, planeOf};
+ghost use Rattle.same.specs.Same.{settingsOf};
 ghost use Rattle.mask.specs.Call.{callOf};
 
 // The bit above the lowest, of bytes of two bits.
@@ -33,7 +34,7 @@ fn exact(size: usize, width: usize, height: usize) -> bool
     }
 }
 
-// The number of mask's refusal, or 0. It does not look at the settings.
+// The number of mask's refusal, or 0, whatever the settings.
 fn mask_refusal(
     still: &[u8],
     first: &[u8],
@@ -41,11 +42,8 @@ fn mask_refusal(
     pitch: usize,
     width: usize,
     height: usize,
-    limit: f32,
-    edge: f32,
-    tolerance: f32,
 ) -> u8
-    ensures { λ r. ⌜ r ≡ maskRefusal (callOf (planeOf (now (first .entry)) pitch) (planeOf (now (second .entry)) pitch) width height (settingsOf limit edge tolerance) (now (still .entry))) ⌝ }
+    ensures { λ r. ⌜ ((s : Settings) → r ≡ maskRefusal (callOf (planeOf (now (first .entry)) pitch) (planeOf (now (second .entry)) pitch) width height s (now (still .entry)))) ⌝ }
 {
     let sizes = plane::both(plane::sized(width), plane::sized(height));
     let pitched = plane::pitched(pitch, width);
@@ -55,15 +53,8 @@ fn mask_refusal(
         plane::both(plane::planed(second.len(), pitch, width, height), true),
     );
     let filled = exact(still.len(), width, height);
-    plane::unless(
-        1,
-        sizes,
-        plane::unless(
-            3,
-            pitches,
-            plane::unless(4, lengths, plane::unless(4, filled, 0)),
-        ),
-    )
+    let rest = plane::unless(4, lengths, plane::unless(4, filled, 0));
+    plane::unless(1, sizes, plane::unless(3, pitches, rest))
 }
 
 // Masks, or refuses: the contract is the equation for both.
@@ -80,17 +71,7 @@ pub fn mask(
 ) -> Answer
     ensures { λ r. ⌜ (let c = callOf (planeOf (now (first .entry)) pitch) (planeOf (now (second .entry)) pitch) width height (settingsOf limit edge tolerance) (now (still .entry)) in Done (maskRefusal c) (maskLeaves c) (now (still .exit)) r) ⌝ }
 {
-    let number = mask_refusal(
-        still,
-        first,
-        second,
-        pitch,
-        width,
-        height,
-        limit,
-        edge,
-        tolerance,
-    );
+    let number = mask_refusal(still, first, second, pitch, width, height);
     if number != 0 {
         return Answer { number, count: 0 };
     }

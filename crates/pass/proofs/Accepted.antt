@@ -1,14 +1,15 @@
 -- What the tests of a table say where none of its rows fits. Assumes nothing.
 use mathlib.Core.Path.{_≡_, refl, sym}
 use mathlib.Core.Bool.{Bool, true, false, not, cond, _&&_, false≢true}
-use mathlib.Core.List.{List}
-use Prim.Native.Nat.{ℕ, suc, _+_, _-_, _*_, _≤_, _<_}
+use mathlib.Core.List.{List, _∷_}
+use Prim.Native.Nat.{ℕ, suc, _-_, _≤_, _<_}
 use native.Mathlib.Nat.{mul-le-mul-right}
 use native.Mathlib.Omega.{arith}
 use borrow.Author.Tests.{leb-true}
 use lib.Dec.{leb}
 use lib.ListN.{length}
-use Rattle.rules.specs.Domain.{isSize, areSizes, isPitch}
+use Rattle.rules.specs.Forms.{Plane, each}
+use Rattle.rules.specs.Domain.{isSize, areSizes, isPitch, isPlane, havePitches, haveLengths}
 use Rattle.pass.specs.Pass.{RowIn, PlaneIn}
 
 -- an `&&` that is true: both are
@@ -38,11 +39,16 @@ sizes-in size e =
     let h = both (leb 1 (size .1)) (leb (size .1) 4096) (t .1) in
     (leb-true _ _ (w .0), leb-true _ _ (w .1), leb-true _ _ (h .0), leb-true _ _ (h .1))
 
-pub plane-in : (bytes : List ℕ) (pitch : ℕ) (size : ℕ × ℕ) → areSizes size ≡ true → isPitch pitch (size .0) ≡ true
-    → leb ((size .1 - 1) * pitch + size .0) (length bytes) ≡ true → PlaneIn bytes pitch size
-plane-in bytes pitch size s p l =
+-- the first of some planes that are lent, and the others
+pub first-in : (p : Plane) (rest : List Plane) (size : ℕ × ℕ) → areSizes size ≡ true → havePitches (p ∷ rest) size ≡ true → haveLengths (p ∷ rest) size ≡ true
+    → PlaneIn (p .bytes) (p .pitch) size × (havePitches rest size ≡ true) × (haveLengths rest size ≡ true)
+unfolding each
+first-in p rest size s pitches lengths =
     let z = sizes-in size s in
-    record { near = (z .1, z .3); apart = leb-true _ _ (both (leb (size .0) pitch) (leb pitch 65536) p .1); inside = leb-true _ _ l }
+    let a = both (isPitch (p .pitch) (size .0)) (havePitches rest size) pitches in
+    let b = both (isPlane p size) (haveLengths rest size) lengths in
+    let narrow = both (leb (size .0) (p .pitch)) (leb (p .pitch) 65536) (a .0) .1 in
+    (record { near = (z .1, z .3); apart = leb-true _ _ narrow; inside = leb-true _ _ (b .0) }, a .1, b .1)
 
 -- ---- the pixels of a row, and the rows of a plane
 

@@ -41,7 +41,7 @@ module _ (width x y : ℕ) (inside : x < width) where
   pub row : (y * width + x) / width ≡ y
   row = let some : 0 < width = omega arith in mul-add-div-right some y x ∙ rw (div-eq-of-lt inside, add-zero)
 
-  -- a row's last place is in the table
+  -- it is a place of the table
   pub in-table : (height : ℕ) → y < height → y * width + x < width * height
   in-table height below =
       omega (arith, suc-mul y width, mul-le-mul-right width below, mul-comm height width)

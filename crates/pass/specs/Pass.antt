@@ -5,7 +5,11 @@ use mathlib.Core.List.{List}
 use Prim.Native.Nat.{ℕ, _+_, _-_, _*_, _≤_, _<_}
 use lib.ListN.{length}
 use Rattle.rules.specs.declared.Answer.{Answer}
-use Rattle.rules.specs.Forms.{Rule, scanRow, stroke, painted, uncounted}
+use Rattle.rules.specs.Forms.{Plane, Rule, scanRow, stroke, painted, uncounted}
+
+-- bytes and their pitch
+abbrev pub planeOf : (bytes : List ℕ) → (pitch : ℕ) → Plane
+planeOf bytes pitch = record { bytes = bytes; pitch = pitch }
 
 -- the byte that stands at pixel (x, y) after a rule, by the byte that stood there
 unfoldable pub put : Rule → (x y old : ℕ) → ℕ
@@ -17,7 +21,7 @@ pub record RowPainted (rule : Rule) (pitch y width : ℕ) (before after : List �
 
 -- the first `height` rows are
 pub record RowsPainted (rule : Rule) (pitch width height : ℕ) (before after : List ℕ) : Type 0 where
-  pub bytes : after ≡ painted rule (width, height) (record { bytes = before; pitch = pitch })
+  pub bytes : after ≡ painted rule (width, height) (planeOf before pitch)
 
 -- what a call answers, and what it leaves in its output
 pub record Done (number : ℕ) (left output : List ℕ) (r : Answer) : Type 0 where

@@ -15,9 +15,6 @@ use Rattle.rules.specs.Still.{isSame, sameAt}
 abbrev pub bitOf : Bool → ℕ
 bitOf b = cond b 1 0
 
-abbrev pub planeOf : (bytes : List ℕ) → (pitch : ℕ) → Plane
-planeOf bytes pitch = record { bytes = bytes; pitch = pitch }
-
 abbrev pub settingsOf : (limit edge tolerance : Float) → Settings
 settingsOf limit edge tolerance = record { limit = limit; edge = edge; tolerance = tolerance }
 

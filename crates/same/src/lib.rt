@@ -5,9 +5,9 @@ ghost use Prim.Native.Nat.{_≤_, _<_};
 ghost use Rattle.rules.specs.Forms.{apart as apartOf};
 ghost use Rattle.rules.specs.Reading.{after as afterOf};
 ghost use Rattle.rules.specs.Still.{isSame};
-ghost use Rattle.pass.specs.Pass.{RowIn, PlaneIn};
+ghost use Rattle.pass.specs.Pass.{RowIn, PlaneIn, planeOf};
 ghost use Rattle.pass.specs.Table.{RowStored, RowsStored};
-ghost use Rattle.same.specs.Same.{bitOf, detailBy, detailAt, planeOf, settingsOf, sameBy, sameBit, Around};
+ghost use Rattle.same.specs.Same.{bitOf, detailBy, detailAt, settingsOf, sameBy, sameBit, Around};
 
 // A yes as 1, a no as 0.
 pub fn bit(b: bool) -> u8

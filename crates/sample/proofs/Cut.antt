@@ -1,19 +1,19 @@
 -- A point of a plane is cut by adding 2 ^ 23 and taking it off; held to a side, it is cut to one of its places.
 -- Assumes nothing.
-use mathlib.Core.Path.{_≡_, refl, sym, ap, _∙_, subst}
-use mathlib.Core.Bool.{Bool, true, false, not, cond, true≢false, false≢true}
+use mathlib.Core.Path.{_≡_, refl, sym, ap, _∙_}
+use mathlib.Core.Bool.{Bool, true, false, cond, true≢false, false≢true}
 use Prim.Native.Nat.{ℕ, suc, _-_, _*_, _/_, _^_, _≤_, _<_, min, zero-le}
-use native.Mathlib.Nat.{le-trans, lt-of-le-of-lt, div-lt-iff-lt-mul, zero-mul}
+use native.Mathlib.Nat.{lt-of-le-of-lt, div-lt-iff-lt-mul}
 use native.Mathlib.Omega.{arith}
 use lib.IntN.{pos}
-use lib.Dec.{T, ltb, leb, ltb→lt, lt→ltb, le→leb, nltb→le, lit<, lit≤}
+use lib.Dec.{T, ltb, leb, lt→ltb, le→leb, nltb→le}
 use lib.Ieee.{Float, nan, inf, fin, binary32, up, down, lt, le, add, sub, ofInt, ofBits, toUnsigned, inUnsigned}
 use lib.Ieee.Fits.{down-pos}
-use Rattle.rules.specs.Literals.{lit, 0·0}
-use Rattle.rules.specs.Float.{_≺_, float, cut, clamp}
+use Rattle.rules.specs.Literals.{0·0}
+use Rattle.rules.specs.Float.{float, cut, clamp}
 use Rattle.rules.specs.Reading.{heldTo}
 use Rattle.float.proofs.Floor.{Floored, floored, there-and-back, big, number}
-use Rattle.laws.proofs.Value.{T-of, not-of}
+use Rattle.laws.proofs.Value.{not-of}
 use Rattle.laws.proofs.Order.{not-lt-of-le}
 use Rattle.float.proofs.Index.{cut-clamp}
 use Rattle.laws.proofs.Whole.{int-le}

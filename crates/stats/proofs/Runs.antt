@@ -1,8 +1,8 @@
 -- A call of stats that is not refused can be run.
 -- Assumes nothing.
-use mathlib.Core.Path.{_≡_, refl}
+use mathlib.Core.Path.{_≡_}
 use mathlib.Core.Bool.{Bool, true, _&&_}
-use Prim.Native.Nat.{ℕ, _*_, _/_, _≤_}
+use Prim.Native.Nat.{ℕ, _*_, _≤_}
 use native.Mathlib.Omega.{arith}
 use borrow.Author.Tests.{eqb-true}
 use lib.Dec.{eqb}
@@ -12,7 +12,6 @@ use Rattle.rules.specs.Calls.{StatsCall}
 use Rattle.rules.specs.Domain.{areSizes, isRatio, isPitch, isPlane, havePitches, haveLengths, areSums, motionLengths, motionNumbers}
 use Rattle.rules.specs.Refusals.{lumas, chromas, statsRefusal}
 use Rattle.laws.proofs.Accepted.{row-passed, both}
-use Rattle.sample.specs.Points.{PlaneFits}
 use Rattle.motion.specs.declared.Grid.{Grid}
 use Rattle.motion.specs.Moves.{motionOf, Moves}
 use Rattle.gather.specs.Sums.{Gathers}
@@ -94,8 +93,8 @@ module _ (s : StatsCall) (g : Grid) where
       → (isPlane first size ≡ true) × (isPlane second size ≡ true) → Passes first second m g size ratio
   passing laid t first second size ratio few wide tall p l =
       record {
-        before = plane-in (first .bytes) (first .pitch) (size .0) (size .1) wide tall (p .0) (l .0);
-        after = plane-in (second .bytes) (second .pitch) (size .0) (size .1) wide tall (p .1) (l .1);
+        first-fits = plane-in (first .bytes) (first .pitch) (size .0) (size .1) wide tall (p .0) (l .0);
+        second-fits = plane-in (second .bytes) (second .pitch) (size .0) (size .1) wide tall (p .1) (l .1);
         moves = moving laid t ratio few;
       }
 

@@ -1,6 +1,6 @@
 -- The table of stats by its ten tests.
 -- Assumes nothing.
-use mathlib.Core.Path.{_≡_, refl}
+use mathlib.Core.Path.{_≡_}
 use mathlib.Core.Bool.{Bool, not, cond}
 use Prim.Native.Nat.{ℕ}
 use lib.Dec.{leb}

@@ -2,8 +2,7 @@
 use motion::Grid;
 ghost use mathlib.Core.Path.{_≡_};
 ghost use mathlib.Core.Bool.{_&&_, true};
-ghost use Prim.Native.Nat.{_+_, _-_, _*_};
-ghost use lib.Dec.{leb};
+ghost use Prim.Native.Nat.{_-_};
 ghost use Rattle.rules.specs.Domain.{isPitch, isPlane};
 ghost use Rattle.rules.specs.Refusals.{statsRefusal};
 ghost use Rattle.motion.specs.Moves.{motionOf};

@@ -1,4 +1,4 @@
--- Tables of refusals: the last row. Assumes nothing.
+-- Tables of refusals: row by row, and the last row. Assumes nothing.
 use mathlib.Core.Path.{_≡_, refl, sym}
 use mathlib.Core.Bool.{Bool, true, false, not, cond, _&&_}
 use mathlib.Core.List.{List, [], _∷_, _++_}
@@ -7,6 +7,11 @@ use borrow.Author.Tests.{not-true}
 use lib.Dec.{eqb}
 use Rattle.rules.specs.Refusals.{Table, _unless_, firstFitting}
 use Rattle.laws.proofs.Accepted.{both}
+
+-- a row, as `unless` gives it, before a table that is done
+pub row : {a right : Bool} (n : ℕ) {u v : ℕ} (rows : Table) → u ≡ cond (not a) n v → a ≡ right → v ≡ firstFitting rows → u ≡ firstFitting ((n unless right) ∷ rows)
+unfolding firstFitting
+row n rows e f g = rw (e, f, g)
 
 -- ---- the last row
 

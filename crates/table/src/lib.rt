@@ -49,11 +49,18 @@ pub fn exact_planes(
     )
 }
 
+// A slice of this length has a byte for each pixel.
+pub fn exact_pixels(size: usize, width: usize, height: usize) -> bool
+    ensures { λ r. ⌜ r ≡ eqb size (width * height) ⌝ }
+{
+    exact(size, 1, width, height)
+}
+
 // A cover of this length has a byte for each cell.
 pub fn exact_cover(size: usize, width: usize, height: usize) -> bool
     ensures { λ r. ⌜ r ≡ eqb size (cellsOf width * cellsOf height) ⌝ }
 {
-    exact(size, 1, cells(width), cells(height))
+    exact_pixels(size, cells(width), cells(height))
 }
 
 // Entry k of the first half of a slice, and of its second.

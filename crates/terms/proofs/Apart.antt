@@ -1,12 +1,11 @@
 -- Two samples are far apart where their difference, or what it is with the other sign, is above 24.
 -- Assumes nothing.
-use mathlib.Core.Path.{_≡_, refl, sym}
+use mathlib.Core.Path.{_≡_, refl}
 use mathlib.Core.Bool.{Bool, true, false, cond}
-use Prim.Native.Nat.{ℕ, _+_, _*_, _≤_}
+use Prim.Native.Nat.{_+_, _≤_}
 use native.Mathlib.Nat.{add-zero, zero-add}
 use native.Mathlib.Omega.{arith}
-use lib.Dec.{ltb}
-use lib.Ieee.{Float, nan, inf, fin, up, down, lt, neg, ofBits}
+use lib.Ieee.{Float, nan, inf, fin, lt, neg, ofBits}
 use Rattle.rules.specs.Literals.{24·0}
 use Rattle.rules.specs.Float.{abs}
 

@@ -2,7 +2,7 @@
 use rules::Steps;
 ghost use mathlib.Core.Path.{_≡_};
 ghost use mathlib.Core.Bool.{cond};
-ghost use Prim.Native.Nat.{_+_, _<_, _≤_};
+ghost use Prim.Native.Nat.{_+_, _<_};
 ghost use Rattle.rules.specs.Literals.{24·0};
 ghost use Rattle.rules.specs.Float.{_≺_};
 ghost use Rattle.rules.specs.Stats.{oneIfApart, sixTerms};

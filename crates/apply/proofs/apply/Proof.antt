@@ -6,34 +6,22 @@ use Rattle.apply.proofs.Runs.{rule-is, runs}
 use borrow.Author.Needs.{needs}
 use Rattle.apply.proofs.apply.Statement.{statement}
 use Rattle.apply.proofs.apply.Tie as tie
-use Rattle.apply.proofs.apply.Reads as reads
-use Rattle.apply.proofs.apply.Lts as lts
-use Rattle.apply.proofs.apply_refusal.Reads as apply-refusal-reads
-use Rattle.apply.proofs.apply_steps.Reads as apply-steps-reads
-use Rattle.cells.proofs.step_down.Reads as step-down-reads
-use Rattle.plane.proofs.divided.Reads as divided-reads
 
--- src/lib.rt:260:9
 apply-refusal-requires : tie.Need-apply-refusal-requires
 apply-refusal-requires c κs = search needs
 
--- src/lib.rt:273:9
 same-length : tie.Need-same-length
 same-length c = search needs
 
--- src/lib.rt:273:9
 returns : tie.Need-returns
 returns c = refused _ _ _ _ (c .before .apply-refusal .ensures) (c .if1 .taken)
 
--- src/lib.rt:275:9
 divided-requires : tie.Need-divided-requires
 divided-requires c κs = search needs
 
--- src/lib.rt:276:9
 step-down-requires : tie.Need-step-down-requires
 step-down-requires c κs = search needs
 
--- src/lib.rt:277:5
 apply-steps-requires : tie.Need-apply-steps-requires
 apply-steps-requires c κs =
     let tested = c .before .before .before in
@@ -41,11 +29,9 @@ apply-steps-requires c κs =
     rw (c .before .step-down .ensures, c .before .before .divided .ensures)
     (runs (a .output .now) (a .output-pitch) (framesOf (a .first .now) (a .second .now) (a .pitch) (a .time)) (a .width) (a .height) (a .still .now) (a .still-width) (sym (tested .before .apply-refusal .ensures) ∙ tested .if1 .left))
 
--- src/lib.rt:246:1
 same-length-2 : tie.Need-same-length-2
 same-length-2 c = search needs
 
--- src/lib.rt:246:1
 returns-2 : tie.Need-returns-2
 returns-2 c =
     let applied = c .before .before in

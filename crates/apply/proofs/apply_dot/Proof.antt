@@ -1,4 +1,6 @@
 -- `apply::apply_dot` meets its contract. Assumes nothing.
+use mathlib.Core.Path.{_≡_, refl, sym, _∙_}
+use mathlib.Core.Bool.{Bool, true, false, not, _&&_, false≢true}
 use native.Mathlib.Omega.{arith}
 use Rattle.pass.specs.Pass.{put}
 use Rattle.cells.proofs.Places.{cells-most}
@@ -6,78 +8,84 @@ use Rattle.apply.specs.Call.{ruleBy}
 use borrow.Author.Needs.{needs}
 use Rattle.apply.proofs.apply_dot.Statement.{statement}
 use Rattle.apply.proofs.apply_dot.Tie as tie
-use Rattle.apply.proofs.apply_dot.Reads as reads
-use Rattle.apply.proofs.apply_dot.Lts as lts
-use Rattle.apply.proofs.chosen.Reads as chosen-reads
-use Rattle.cells.proofs.byte_sum.Reads as byte-sum-reads
-use Rattle.cells.proofs.cell_count.Reads as cell-count-reads
-use Rattle.float.proofs.mix.Reads as mix-reads
-use Rattle.float.proofs.of_byte.Reads as of-byte-reads
-use Rattle.float.proofs.pixel.Reads as pixel-reads
-use Rattle.plane.proofs.place.Reads as place-reads
 
--- src/lib.rt:39:9
-place-requires : tie.Need-place-requires
-place-requires c κs = search needs
+-- a pixel that is passed over is not mixed
+stays : (skip mixed : Bool) → (skip && not mixed) ≡ true → mixed ≡ false
+stays true true e = sym e
+stays true false e = refl
+stays false mixed e = absurd (false≢true e)
 
--- src/lib.rt:40:28
-shared-slice-read-of-byte : tie.Need-shared-slice-read-of-byte
-shared-slice-read-of-byte c = search needs
-
--- src/lib.rt:40:9
-of-byte-requires : tie.Need-of-byte-requires
-of-byte-requires c κs = search needs
-
--- src/lib.rt:41:28
-shared-slice-read-of-byte-2 : tie.Need-shared-slice-read-of-byte-2
-shared-slice-read-of-byte-2 c = search needs
-
--- src/lib.rt:41:9
-of-byte-requires-2 : tie.Need-of-byte-requires-2
-of-byte-requires-2 c κs = search needs
-
--- src/lib.rt:42:28
-mix-requires : tie.Need-mix-requires
-mix-requires c κs = search needs
-
--- src/lib.rt:42:9
-pixel-requires : tie.Need-pixel-requires
-pixel-requires c κs = search needs
-
--- src/lib.rt:43:9
 byte-sum-requires : tie.Need-byte-sum-requires
 byte-sum-requires c κs = search needs
 
--- src/lib.rt:44:27
 cell-count-requires : tie.Need-cell-count-requires
 cell-count-requires c κs = search needs
 
--- src/lib.rt:44:5
-chosen-requires : tie.Need-chosen-requires
-chosen-requires c κs =
-    let m = cells-most _ _ (c .before .before .before .before .before .before .before .before .before .before .before .before .pre .2 .small) in
+mixes-requires : tie.Need-mixes-requires
+mixes-requires c κs =
+    let m = cells-most _ _ (c .before .before .before .before .before .pre .2 .small) in
     (omega (arith, c .before .byte-sum .ensures .few), omega (arith, c .cell-count .ensures))
 
--- src/lib.rt:23:1
+both-requires : tie.Need-both-requires
+both-requires c κs = search needs
+
 returns : tie.Need-returns
 unfolding put ruleBy
 returns c =
-    let m = c .before .before .before in
+    let m = c .before .before in
+    let no = stays (m .before .before .before .before .before .before .args .skip) (m .mixes .result) (sym (c .before .both .ensures) ∙ c .if1 .taken) in
+    sym (simp (rw (m .mixes .ensures, m .before .cell-count .ensures, m .before .before .byte-sum .ensures .sum) at no))
+
+place-requires : tie.Need-place-requires
+place-requires c κs = search needs
+
+shared-slice-read-of-byte : tie.Need-shared-slice-read-of-byte
+shared-slice-read-of-byte c = search needs
+
+of-byte-requires : tie.Need-of-byte-requires
+of-byte-requires c κs = search needs
+
+shared-slice-read-of-byte-2 : tie.Need-shared-slice-read-of-byte-2
+shared-slice-read-of-byte-2 c = search needs
+
+of-byte-requires-2 : tie.Need-of-byte-requires-2
+of-byte-requires-2 c κs = search needs
+
+mix-requires : tie.Need-mix-requires
+mix-requires c κs = search needs
+
+pixel-requires : tie.Need-pixel-requires
+pixel-requires c κs = search needs
+
+chosen-requires : tie.Need-chosen-requires
+chosen-requires c κs = search needs
+
+returns-2 : tie.Need-returns-2
+unfolding put ruleBy
+returns-2 c =
+    let read = c .before .before .before .before .before in
+    let m = read .before .before .before .before .before in
     rw (
       c .chosen .ensures,
-      c .before .cell-count .ensures,
-      c .before .before .byte-sum .ensures .sum,
-      m .pixel .ensures,
-      m .before .mix .ensures,
-      m .before .before .of-byte2 .ensures,
-      m .before .before .before .before .of-byte .ensures,
-      m .before .before .before .before .before .before .place .ensures,
+      c .before .pixel .ensures,
+      c .before .before .mix .ensures,
+      c .before .before .before .of-byte2 .ensures,
+      read .of-byte .ensures,
+      read .before .before .place .ensures,
+      m .mixes .ensures,
+      m .before .cell-count .ensures,
+      m .before .before .byte-sum .ensures .sum,
     )
 
 pub apply-dot-spec : {M : Type 1} → statement M
 apply-dot-spec =
     tie.close
     (tie.spec
+    byte-sum-requires
+    cell-count-requires
+    mixes-requires
+    both-requires
+    returns
     place-requires
     shared-slice-read-of-byte
     of-byte-requires
@@ -85,7 +93,5 @@ apply-dot-spec =
     of-byte-requires-2
     mix-requires
     pixel-requires
-    byte-sum-requires
-    cell-count-requires
     chosen-requires
-    returns)
+    returns-2)

@@ -1,5 +1,5 @@
-use borrow.Author.Needs.{needs}
 -- `apply::apply_row` meets its contract. The invariant: the first x pixels are written. Assumes nothing.
+use borrow.Author.Needs.{needs}
 use mathlib.Core.Path.{_≡_, refl}
 use Prim.Native.Nat.{_≤_, _-_}
 use native.Mathlib.Nat.{le-antisymm}
@@ -11,60 +11,46 @@ use Rattle.cells.proofs.Places.{pixel-cells}
 use Rattle.apply.specs.Call.{framesOf, ruleBy}
 use Rattle.apply.proofs.apply_row.Statement.{statement}
 use Rattle.apply.proofs.apply_row.Tie as tie
-use Rattle.apply.proofs.apply_row.Reads as reads
-use Rattle.apply.proofs.apply_row.Lts as lts
-use Rattle.apply.proofs.apply_dot.Reads as apply-dot-reads
-use Rattle.plane.proofs.place.Reads as place-reads
 
 abbrev Inv-loop : tie.InvT-loop
-Inv-loop output₀ output-pitch first second pitch width still still-width across down time y x₀ output x =
+Inv-loop output₀ output-pitch first second pitch width still still-width across down time skip y x₀ output x =
     RowPainted (ruleBy (framesOf first second pitch time) still still-width across down) output-pitch y x output₀ output × (x ≤ width) × (length output ≡ length output₀)
 
 abbrev μ-loop : tie.MeasureT-loop
-μ-loop output₀ output-pitch first second pitch width still still-width across down time y x₀ output x = width - x
+μ-loop output₀ output-pitch first second pitch width still still-width across down time skip y x₀ output x = width - x
 
--- src/lib.rt:66:5
 loop-holds : tie.Need-loop-holds Inv-loop μ-loop
 loop-holds c = (row-none _ _ _ _, omega arith, refl)
 
--- src/lib.rt:67:13
 place-requires : tie.Need-place-requires Inv-loop μ-loop
 place-requires c κs = search needs
 
--- src/lib.rt:69:13
 slice-read-apply-dot : tie.Need-slice-read-apply-dot Inv-loop μ-loop
 slice-read-apply-dot c = search needs
 
--- src/lib.rt:68:21
 apply-dot-requires : tie.Need-apply-dot-requires Inv-loop μ-loop
 apply-dot-requires c κs =
     let l = c .before .before in
     (search needs, search needs, pixel-cells (l .before .before .before .before .before .before .pre .3) (l .loop-test .taken))
 
--- src/lib.rt:68:9
 slice-write-output : tie.Need-slice-write-output Inv-loop μ-loop
 slice-write-output c = search needs
 
--- src/lib.rt:81:9
 add-x : tie.Need-add-x Inv-loop μ-loop
 add-x c = search needs
 
--- src/lib.rt:66:5
 loop-less : tie.Need-loop-less Inv-loop μ-loop
 loop-less c = search needs
 
--- src/lib.rt:66:5
 loop-again : tie.Need-loop-again Inv-loop μ-loop
 loop-again c =
     let p = c .before .before in
     let inv = p .before .before .loop .inv in
     (rw (p .place .ensures) (row-more _ (inv .0) (rw (p .place .ensures) at (c .apply-dot .ensures))), omega arith, simp length-set (inv .2))
 
--- src/lib.rt:48:1
 same-length : tie.Need-same-length Inv-loop μ-loop
 same-length c = search needs
 
--- src/lib.rt:48:1
 returns : tie.Need-returns Inv-loop μ-loop
 returns c =
     let l = c .before .loop in

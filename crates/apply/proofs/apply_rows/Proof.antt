@@ -1,5 +1,5 @@
-use borrow.Author.Needs.{needs}
 -- `apply::apply_rows` meets its contract. The invariant: the first y rows are written. Assumes nothing.
+use borrow.Author.Needs.{needs}
 use mathlib.Core.Path.{_≡_, refl, _∙_}
 use Prim.Native.Nat.{_≤_, _-_}
 use native.Mathlib.Nat.{le-antisymm}
@@ -12,24 +12,19 @@ use Rattle.cells.proofs.Places.{row-cells}
 use Rattle.apply.specs.Call.{framesOf, ruleBy}
 use Rattle.apply.proofs.apply_rows.Statement.{statement}
 use Rattle.apply.proofs.apply_rows.Tie as tie
-use Rattle.apply.proofs.apply_rows.Reads as reads
-use Rattle.apply.proofs.apply_rows.Lts as lts
-use Rattle.apply.proofs.apply_row.Reads as apply-row-reads
 
 abbrev Inv-loop : tie.InvT-loop
-Inv-loop output₀ output-pitch first second pitch width height still still-width across down time y₀ output y =
+Inv-loop output₀ output-pitch first second pitch width height still still-width across down time skip y₀ output y =
     RowsPainted (ruleBy (framesOf first second pitch time) still still-width across down) output-pitch width y output₀ output
     × (y ≤ height)
     × (length output ≡ length output₀)
 
 abbrev μ-loop : tie.MeasureT-loop
-μ-loop output₀ output-pitch first second pitch width height still still-width across down time y₀ output y = height - y
+μ-loop output₀ output-pitch first second pitch width height still still-width across down time skip y₀ output y = height - y
 
--- src/lib.rt:104:5
 loop-holds : tie.Need-loop-holds Inv-loop μ-loop
 loop-holds c = (rows-none _ _ _ _, omega arith, refl)
 
--- src/lib.rt:105:9
 apply-row-requires : tie.Need-apply-row-requires Inv-loop μ-loop
 apply-row-requires c κs =
     let l = c .before .before in
@@ -37,26 +32,21 @@ apply-row-requires c κs =
     let below = c .before .loop-test .taken in
     (row-as-long (row-in (fits .0) below) (l .loop .inv .2), row-in (fits .1) below, row-in (fits .2) below, row-cells (fits .3) below)
 
--- src/lib.rt:119:9
 add-y : tie.Need-add-y Inv-loop μ-loop
 add-y c = search needs
 
--- src/lib.rt:104:5
 loop-less : tie.Need-loop-less Inv-loop μ-loop
 loop-less c = search needs
 
--- src/lib.rt:104:5
 loop-again : tie.Need-loop-again Inv-loop μ-loop
 loop-again c =
     let row = c .before .before in
     let inv = row .before .before .before .loop .inv in
     (rows-more (inv .0) (row .apply-row .ensures), omega arith, row .apply-row .kept .0 ∙ inv .2)
 
--- src/lib.rt:86:1
 same-length : tie.Need-same-length Inv-loop μ-loop
 same-length c = search needs
 
--- src/lib.rt:86:1
 returns : tie.Need-returns Inv-loop μ-loop
 returns c =
     let l = c .before .loop in

@@ -1,5 +1,6 @@
+-- `cells::byte_row` meets its contract. The invariant: the first dx cells are added. Assumes nothing.
 use borrow.Author.Needs.{needs}
-use mathlib.Core.Path.{_≡_, refl, _∙_}
+use mathlib.Core.Path.{_≡_, refl}
 use Prim.Native.Nat.{_+_, _*_, _≤_, _<_, _-_}
 use lib.ListN.{getD}
 use native.Mathlib.Nat.{le-antisymm}
@@ -9,9 +10,6 @@ use Rattle.rules.specs.Forms.{turns}
 use Rattle.cells.specs.Cells.{rowSum}
 use Rattle.cells.proofs.byte_row.Statement.{statement}
 use Rattle.cells.proofs.byte_row.Tie as tie
-use Rattle.cells.proofs.byte_row.Reads as reads
-use Rattle.cells.proofs.byte_row.Lts as lts
-use Rattle.plane.proofs.place.Reads as place-reads
 
 abbrev Inv-loop : tie.InvT-loop
 Inv-loop mask row mask-width x across total n₀ dx₀ n dx =
@@ -24,40 +22,31 @@ abbrev μ-loop : tie.MeasureT-loop
 byte : (c : tie.After-shared-slice-known2 Inv-loop μ-loop) → getD (c .before .before .before .before .before .before .args .mask .now) (c .before .place2 .result) 0 < 256
 byte c = c .shared-slice-known2 .given (c .before .place2 .result) .fits
 
--- src/lib.rt:56:5
 loop-holds : tie.Need-loop-holds Inv-loop μ-loop
 unfolding turns rowSum
 loop-holds c = (refl, omega arith, omega arith)
 
--- src/lib.rt:57:47
 place-requires : tie.Need-place-requires Inv-loop μ-loop
 place-requires c κs = search needs
 
--- src/lib.rt:57:13
 place-requires-2 : tie.Need-place-requires-2 Inv-loop μ-loop
 place-requires-2 c κs = search needs
 
--- src/lib.rt:58:14
 shared-slice-read-n : tie.Need-shared-slice-read-n Inv-loop μ-loop
 shared-slice-read-n c = search needs
 
--- src/lib.rt:58:14
 cast-n : tie.Need-cast-n Inv-loop μ-loop
 cast-n c = omega (arith, byte c)
 
--- src/lib.rt:58:9
 add-n : tie.Need-add-n Inv-loop μ-loop
 add-n c = omega (arith, byte c)
 
--- src/lib.rt:59:9
 add-dx : tie.Need-add-dx Inv-loop μ-loop
 add-dx c = search needs
 
--- src/lib.rt:56:5
 loop-less : tie.Need-loop-less Inv-loop μ-loop
 loop-less c = search needs
 
--- src/lib.rt:56:5
 loop-again : tie.Need-loop-again Inv-loop μ-loop
 unfolding turns rowSum
 loop-again c =
@@ -65,7 +54,6 @@ loop-again c =
     let l = p .before .before .before in
     (rw (l .loop .inv .0, p .place2 .ensures, p .before .place .ensures, add-one), omega arith, omega (arith, byte c))
 
--- src/lib.rt:43:1
 returns : tie.Need-returns Inv-loop μ-loop
 returns c =
     let l = c .before .loop in

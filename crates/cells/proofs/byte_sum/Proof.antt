@@ -1,3 +1,4 @@
+-- `cells::byte_sum` meets its contract. The invariant: the first dy rows are added. Assumes nothing.
 use borrow.Author.Needs.{needs}
 use mathlib.Core.Path.{_≡_, refl, _∙_}
 use Prim.Native.Nat.{_*_, _≤_, _-_}
@@ -9,10 +10,6 @@ use Rattle.cells.specs.Cells.{sumOf}
 use Rattle.cells.proofs.Places.{row-fits, row-more, all-rows}
 use Rattle.cells.proofs.byte_sum.Statement.{statement}
 use Rattle.cells.proofs.byte_sum.Tie as tie
-use Rattle.cells.proofs.byte_sum.Reads as reads
-use Rattle.cells.proofs.byte_sum.Lts as lts
-use Rattle.cells.proofs.byte_row.Reads as byte-row-reads
-use Rattle.plane.proofs.place.Reads as place-reads
 
 abbrev Inv-loop : tie.InvT-loop
 Inv-loop mask mask-width across down x y n₀ dy₀ n dy =
@@ -21,31 +18,25 @@ Inv-loop mask mask-width across down x y n₀ dy₀ n dy =
 abbrev μ-loop : tie.MeasureT-loop
 μ-loop mask mask-width across down x y n₀ dy₀ n dy = down - dy
 
--- src/lib.rt:78:5
 loop-holds : tie.Need-loop-holds Inv-loop μ-loop
 unfolding turns sumOf
 loop-holds c = (refl, omega arith, omega arith)
 
--- src/lib.rt:79:13
 place-requires : tie.Need-place-requires Inv-loop μ-loop
 place-requires c κs = search needs
 
--- src/lib.rt:80:9
 byte-row-requires : tie.Need-byte-row-requires Inv-loop μ-loop
 byte-row-requires c κs =
     let l = c .before .before in
     let a = l .before .before .args in
     rw (c .place .ensures) (row-fits _ _ _ _ (a .x) (a .y) (l .loop .dy) _ (l .before .before .pre) (c .before .loop-test .taken) (l .loop .inv .2))
 
--- src/lib.rt:81:9
 add-dy : tie.Need-add-dy Inv-loop μ-loop
 add-dy c = search needs
 
--- src/lib.rt:78:5
 loop-less : tie.Need-loop-less Inv-loop μ-loop
 loop-less c = search needs
 
--- src/lib.rt:78:5
 loop-again : tie.Need-loop-again Inv-loop μ-loop
 unfolding turns sumOf
 loop-again c =
@@ -53,7 +44,6 @@ loop-again c =
     let l = p .before .before .loop in
     (c .byte-row .ensures .sum ∙ rw (l .inv .0, p .place .ensures, add-one), omega arith, row-more _ _ _ _ (l .inv .2) (c .byte-row .ensures .few))
 
--- src/lib.rt:65:1
 returns : tie.Need-returns Inv-loop μ-loop
 returns c =
     let a = c .before .before .before .args in

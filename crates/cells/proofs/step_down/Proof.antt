@@ -1,20 +1,15 @@
+-- `cells::step_down` meets its contract. Assumes nothing.
 use native.Mathlib.Nat.{div-div-eq-div-mul}
 use borrow.Author.Needs.{needs}
 use Rattle.cells.proofs.step_down.Statement.{statement}
 use Rattle.cells.proofs.step_down.Tie as tie
-use Rattle.cells.proofs.step_down.Reads as reads
-use Rattle.cells.proofs.step_down.Lts as lts
-use Rattle.plane.proofs.divided.Reads as divided-reads
 
--- src/lib.rt:20:20
 divided-requires : tie.Need-divided-requires
 divided-requires c κs = search needs
 
--- src/lib.rt:20:5
 divided-requires-2 : tie.Need-divided-requires-2
 divided-requires-2 c κs = search needs
 
--- src/lib.rt:17:1
 returns : tie.Need-returns
 returns c = rw (c .divided2 .ensures, c .before .divided .ensures, div-div-eq-div-mul)
 

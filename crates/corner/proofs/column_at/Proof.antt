@@ -2,48 +2,34 @@
 use borrow.Author.Needs.{needs}
 use Rattle.corner.proofs.column_at.Statement.{statement}
 use Rattle.corner.proofs.column_at.Tie as tie
-use Rattle.corner.proofs.column_at.Reads as reads
-use Rattle.corner.proofs.column_at.Lts as lts
-use Rattle.corner.proofs.odd.Reads as odd-reads
-use Rattle.plane.proofs.place.Reads as place-reads
 
--- src/lib.rt:28:23
 place-requires : tie.Need-place-requires
 place-requires c κs = search needs
 
--- src/lib.rt:28:17
 shared-slice-read-odd : tie.Need-shared-slice-read-odd
 shared-slice-read-odd c = search needs
 
--- src/lib.rt:28:9
 odd-requires : tie.Need-odd-requires
 odd-requires c κs = search needs
 
--- src/lib.rt:29:23
 place-requires-2 : tie.Need-place-requires-2
 place-requires-2 c κs = search needs
 
--- src/lib.rt:29:17
 shared-slice-read-odd-2 : tie.Need-shared-slice-read-odd-2
 shared-slice-read-odd-2 c = search needs
 
--- src/lib.rt:29:9
 odd-requires-2 : tie.Need-odd-requires-2
 odd-requires-2 c κs = search needs
 
--- src/lib.rt:30:23
 place-requires-3 : tie.Need-place-requires-3
 place-requires-3 c κs = search needs
 
--- src/lib.rt:30:17
 shared-slice-read-odd-3 : tie.Need-shared-slice-read-odd-3
 shared-slice-read-odd-3 c = search needs
 
--- src/lib.rt:30:9
 odd-requires-3 : tie.Need-odd-requires-3
 odd-requires-3 c κs = search needs
 
--- src/lib.rt:24:1
 returns : tie.Need-returns
 returns c =
     let middle = c .before .before .before in

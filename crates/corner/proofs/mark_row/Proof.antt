@@ -1,5 +1,5 @@
-use borrow.Author.Needs.{needs}
 -- `corner::mark_row` meets its contract. The invariant: the first x pixels have both bits, and two columns are held. Assumes nothing.
+use borrow.Author.Needs.{needs}
 use mathlib.Core.Path.{_≡_, refl, _∙_}
 use mathlib.Core.Bool.{Bool}
 use Prim.Native.Nat.{ℕ, _+_, _-_, _*_, _≤_, _<_}
@@ -12,13 +12,6 @@ use Rattle.corner.specs.Corner.{columnOf, Holds, RowMarked}
 use Rattle.corner.proofs.Marks.{mark-is, row-marked, none-marked, column-is, column-in}
 use Rattle.corner.proofs.mark_row.Statement.{statement}
 use Rattle.corner.proofs.mark_row.Tie as tie
-use Rattle.corner.proofs.mark_row.Reads as reads
-use Rattle.corner.proofs.mark_row.Lts as lts
-use Rattle.corner.proofs.column_at.Reads as column-at-reads
-use Rattle.corner.proofs.mark.Reads as mark-reads
-use Rattle.corner.proofs.previous.Reads as previous-reads
-use Rattle.plane.proofs.place.Reads as place-reads
-use Rattle.same.proofs.after.Reads as after-reads
 
 abbrev Inv-loop : tie.InvT-loop
 Inv-loop still₀ width height y above below last mid₀ left₀ x₀ still mid left x =
@@ -38,19 +31,15 @@ rows c = let below = c .before .before .before .pre .2 in (omega (arith, c .befo
 room : (c : tie.At-loop Inv-loop μ-loop) → let a = c .before .before .before .before .before .before .args in a .y * a .width + a .width ≤ length (c .loop .still)
 room c = let s = c .before .before .before .before .before .before in omega (arith, row-in (s .pre .0) (s .pre .2) .inside, c .loop .inv .2)
 
--- src/lib.rt:69:9
 previous-requires : tie.Need-previous-requires Inv-loop μ-loop
 previous-requires c κs = search needs
 
--- src/lib.rt:70:9
 after-requires : tie.Need-after-requires Inv-loop μ-loop
 after-requires c κs = search needs
 
--- src/lib.rt:71:16
 sub-last : tie.Need-sub-last Inv-loop μ-loop
 sub-last c = search needs
 
--- src/lib.rt:72:9
 column-at-requires : tie.Need-column-at-requires Inv-loop μ-loop
 column-at-requires c κs =
     let s = c .before .before .before .before in
@@ -58,7 +47,6 @@ column-at-requires c κs =
     let r = rows (c .before) in
     column-in (a .still .now) _ (a .width, a .height) 0 _ (a .y) _ (s .pre .0) refl (s .pre .1) (r .0) (s .pre .2) (r .1)
 
--- src/lib.rt:75:5
 loop-holds : tie.Need-loop-holds Inv-loop μ-loop
 loop-holds c =
     let s = c .before .before .before .before .before in
@@ -68,11 +56,9 @@ loop-holds c =
     λ same h. c .column-at .ensures ∙ column-is same (a .width, a .height) (a .still .now) 0 _ (a .y) _ h (s .pre .1) (r .0) (s .pre .2) (r .1) in
     (λ same h. (none-marked same (a .width, a .height) (a .y) (a .still .now) h, first same h, first same h), omega arith, refl)
 
--- src/lib.rt:76:45
 add-column-at : tie.Need-add-column-at Inv-loop μ-loop
 add-column-at c = search needs
 
--- src/lib.rt:76:13
 column-at-requires-2 : tie.Need-column-at-requires-2 Inv-loop μ-loop
 column-at-requires-2 c κs =
     let l = c .before .before in
@@ -82,27 +68,21 @@ column-at-requires-2 c κs =
     let right : l .loop .x + 1 < a .width = omega arith in
     column-in (a .still .now) _ (a .width, a .height) (l .loop .x + 1) _ (a .y) _ (s .pre .0) (l .loop .inv .2) right (r .0) (s .pre .2) (r .1)
 
--- src/lib.rt:77:13
 place-requires : tie.Need-place-requires Inv-loop μ-loop
 place-requires c κs = search needs
 
--- src/lib.rt:78:20
 mark-requires : tie.Need-mark-requires Inv-loop μ-loop
 mark-requires c κs = search needs
 
--- src/lib.rt:78:9
 slice-write-still : tie.Need-slice-write-still Inv-loop μ-loop
 slice-write-still c = omega (arith, c .before .place .ensures, room (c .before .before .before .before .before))
 
--- src/lib.rt:81:9
 add-x : tie.Need-add-x Inv-loop μ-loop
 add-x c = search needs
 
--- src/lib.rt:75:5
 loop-less : tie.Need-loop-less Inv-loop μ-loop
 loop-less c = search needs
 
--- src/lib.rt:75:5
 loop-again : tie.Need-loop-again Inv-loop μ-loop
 loop-again c =
     let p = c .before in
@@ -126,23 +106,18 @@ loop-again c =
       simp length-set (l .loop .inv .2),
     )
 
--- src/lib.rt:83:9
 place-requires-2 : tie.Need-place-requires-2 Inv-loop μ-loop
 place-requires-2 c κs = search needs
 
--- src/lib.rt:84:16
 mark-requires-2 : tie.Need-mark-requires-2 Inv-loop μ-loop
 mark-requires-2 c κs = search needs
 
--- src/lib.rt:84:5
 slice-write-still-2 : tie.Need-slice-write-still-2 Inv-loop μ-loop
 slice-write-still-2 c = omega (arith, c .before .place2 .ensures, room (c .before .before .before))
 
--- src/lib.rt:65:1
 same-length : tie.Need-same-length Inv-loop μ-loop
 same-length c = search needs
 
--- src/lib.rt:65:1
 returns : tie.Need-returns Inv-loop μ-loop
 returns c = λ same h.
     let p = c .before in

@@ -1,5 +1,5 @@
-use borrow.Author.Needs.{needs}
 -- `corner::mark_rows` meets its contract. The invariant: the first y rows have both bits. Assumes nothing.
+use borrow.Author.Needs.{needs}
 use mathlib.Core.Path.{_≡_, refl, _∙_}
 use mathlib.Core.Bool.{Bool}
 use Prim.Native.Nat.{ℕ, _-_, _≤_}
@@ -11,9 +11,6 @@ use Rattle.corner.specs.Corner.{Holds, RowsMarked}
 use Rattle.corner.proofs.Marks.{no-row, rows-marked}
 use Rattle.corner.proofs.mark_rows.Statement.{statement}
 use Rattle.corner.proofs.mark_rows.Tie as tie
-use Rattle.corner.proofs.mark_rows.Reads as reads
-use Rattle.corner.proofs.mark_rows.Lts as lts
-use Rattle.corner.proofs.mark_row.Reads as mark-row-reads
 
 abbrev Inv-loop : tie.InvT-loop
 Inv-loop still₀ width height y₀ still y =
@@ -24,26 +21,21 @@ Inv-loop still₀ width height y₀ still y =
 abbrev μ-loop : tie.MeasureT-loop
 μ-loop still₀ width height y₀ still y = height - y
 
--- src/lib.rt:93:5
 loop-holds : tie.Need-loop-holds Inv-loop μ-loop
 loop-holds c = (λ same h. no-row same _ _ h, omega arith, refl)
 
--- src/lib.rt:94:9
 mark-row-requires : tie.Need-mark-row-requires Inv-loop μ-loop
 mark-row-requires c κs =
     let l = c .before .before in
     let fits = l .before .before .pre in
     (plane-as-long (fits .0) (l .loop .inv .2), fits .1, c .before .loop-test .taken)
 
--- src/lib.rt:95:9
 add-y : tie.Need-add-y Inv-loop μ-loop
 add-y c = search needs
 
--- src/lib.rt:93:5
 loop-less : tie.Need-loop-less Inv-loop μ-loop
 loop-less c = search needs
 
--- src/lib.rt:93:5
 loop-again : tie.Need-loop-again Inv-loop μ-loop
 loop-again c =
     let row = c .before .before in
@@ -53,11 +45,9 @@ loop-again c =
       row .mark-row .kept .0 ∙ inv .2,
     )
 
--- src/lib.rt:88:1
 same-length : tie.Need-same-length Inv-loop μ-loop
 same-length c = search needs
 
--- src/lib.rt:88:1
 returns : tie.Need-returns Inv-loop μ-loop
 returns c = λ same h.
     let l = c .before .loop in

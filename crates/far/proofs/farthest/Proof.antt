@@ -1,19 +1,13 @@
--- `far::farthest` meets its contract. Assumes nothing.
-use Prim.Native.Nat.{zero-le}
 -- `far::farthest` meets its contract. The invariant: what is left of the field, with the largest so far, gives the whole's. Assumes nothing.
 use borrow.Author.Needs.{needs}
 use mathlib.Core.Path.{_≡_, refl, ap, _∙_}
-use Prim.Native.Nat.{ℕ, _-_, _≤_, max}
+use Prim.Native.Nat.{zero-le, ℕ, _-_, _≤_, max}
 use native.Mathlib.Omega.{arith}
 use lib.ListN.{length, drop}
 use Rattle.rules.specs.Render.{farthest}
 use Rattle.far.proofs.Fields.{more, all}
 use Rattle.far.proofs.farthest.Statement.{statement}
 use Rattle.far.proofs.farthest.Tie as tie
-use Rattle.far.proofs.farthest.Reads as reads
-use Rattle.far.proofs.farthest.Lts as lts
-use Rattle.far.proofs.apart.Reads as apart-reads
-use Rattle.far.proofs.larger.Reads as larger-reads
 
 abbrev Inv-loop : tie.InvT-loop
 Inv-loop field n most₀ i₀ most i = (i ≤ length field) × (farthest field n ≡ farthest (drop i field) most)

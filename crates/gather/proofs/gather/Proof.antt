@@ -5,7 +5,7 @@ use Prim.Native.Nat.{_*_, _-_, _≤_, zero-le}
 use native.Mathlib.Nat.{le-antisymm}
 use native.Mathlib.Omega.{arith}
 use lib.ListN.{length}
-use Rattle.gather.specs.Sums.{framesOf, rowsAdded}
+use Rattle.gather.specs.Sums.{passOf, rowsAdded}
 use Rattle.gather.proofs.Pixels.{rows-none, first-row, rows-more, wide, rows-room, next-row}
 use Rattle.gather.proofs.Table.{table}
 use Rattle.gather.proofs.gather.Statement.{statement}
@@ -13,7 +13,7 @@ use Rattle.gather.proofs.gather.Tie as tie
 
 abbrev Inv-loop : tie.InvT-loop
 Inv-loop sums₀ many pairs first first-pitch second second-pitch forward-x forward-y backward-x backward-y grid width height ratio step place₀ y₀ sums place y =
-    (sums ≡ rowsAdded pairs many (framesOf first first-pitch second second-pitch forward-x forward-y backward-x backward-y grid width height ratio) y sums₀)
+    (sums ≡ rowsAdded pairs many (passOf first first-pitch second second-pitch forward-x forward-y backward-x backward-y grid width height ratio) y sums₀)
     × (place ≡ many * (y * width)) × (y ≤ height) × (length sums ≡ length sums₀)
 
 abbrev μ-loop : tie.MeasureT-loop
@@ -22,7 +22,7 @@ abbrev μ-loop : tie.MeasureT-loop
 mul-step : tie.Need-mul-step Inv-loop μ-loop
 mul-step c =
     let s = c .before .before .before .before .before .before .before in
-    let h = wide (s .args .many) (s .args .width) (s .pre .1) (s .pre .0 .before .wide .1) in
+    let h = wide (s .args .many) (s .args .width) (s .pre .1) (s .pre .0 .first-fits .wide .1) in
     omega arith
 
 loop-holds : tie.Need-loop-holds Inv-loop μ-loop
@@ -50,7 +50,7 @@ add-y : tie.Need-add-y Inv-loop μ-loop
 add-y c =
     let test = c .before .before .before .before in
     let s = test .before .before .before .before .before .before .before .before .before in
-    omega (arith, test .loop-test .taken, s .pre .0 .before .tall .1)
+    omega (arith, test .loop-test .taken, s .pre .0 .first-fits .tall .1)
 
 loop-less : tie.Need-loop-less Inv-loop μ-loop
 loop-less c = falls _ _ (c .before .before .before .before .loop-test .taken)

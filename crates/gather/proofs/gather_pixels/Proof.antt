@@ -1,27 +1,20 @@
--- `gather::gather_pixels` meets its contract. Assumes nothing.
-use borrow.Author.Count.{falls}
-use Prim.Native.Nat.{zero-le}
 -- `gather::gather_pixels` meets its contract. The invariant: the first x pixels are added, and what is carried holds its columns.
 -- Assumes nothing.
-use borrow.Author.Needs.{needs}
+use borrow.Author.Count.{falls}
 use mathlib.Core.Path.{_≡_, refl, _∙_}
-use Prim.Native.Nat.{_+_, _*_, _-_, _≤_}
+use Prim.Native.Nat.{zero-le, _+_, _*_, _-_, _≤_}
 use native.Mathlib.Nat.{le-antisymm}
 use native.Mathlib.Omega.{arith}
 use lib.ListN.{length}
-use Rattle.rules.specs.Forms.{turns}
 use Rattle.motion.specs.Moves.{motionOf, Holds}
-use Rattle.gather.specs.Sums.{framesOf, rowAdded}
+use Rattle.gather.specs.Sums.{passOf, rowAdded}
 use Rattle.gather.proofs.Pixels.{row-none, first-place, row-more, room, next}
 use Rattle.gather.proofs.gather_pixels.Statement.{statement}
 use Rattle.gather.proofs.gather_pixels.Tie as tie
-use Rattle.gather.proofs.gather_pixels.Reads as reads
-use Rattle.gather.proofs.gather_pixels.Lts as lts
-use Rattle.gather.proofs.gather_pixel.Reads as gather-pixel-reads
 
 abbrev Inv-loop : tie.InvT-loop
 Inv-loop sums₀ place many pairs first first-pitch second second-pitch forward-x forward-y backward-x backward-y grid width height ratio down y held₀ k₀ x₀ sums held k x =
-    (sums ≡ rowAdded pairs many (framesOf first first-pitch second second-pitch forward-x forward-y backward-x backward-y grid width height ratio) y place x sums₀)
+    (sums ≡ rowAdded pairs many (passOf first first-pitch second second-pitch forward-x forward-y backward-x backward-y grid width height ratio) y place x sums₀)
     × (k ≡ place + many * x) × (x ≤ width) × (length sums ≡ length sums₀)
     × Holds (motionOf forward-x forward-y backward-x backward-y grid) ratio down held
 
@@ -56,12 +49,10 @@ add-x : tie.Need-add-x Inv-loop μ-loop
 add-x c =
     let at = c .before .before .before .before .before in
     let s = at .before .before .before .before .before .before .before .before in
-    omega (arith, c .before .before .before .before .loop-test .taken, s .pre .0 .before .wide .1)
+    omega (arith, c .before .before .before .before .loop-test .taken, s .pre .0 .first-fits .wide .1)
 
 loop-less : tie.Need-loop-less Inv-loop μ-loop
-loop-less c =
-    let at = c .before .before .before .before .before in
-    falls _ _ (c .before .before .before .before .loop-test .taken)
+loop-less c = falls _ _ (c .before .before .before .before .loop-test .taken)
 
 loop-again : tie.Need-loop-again Inv-loop μ-loop
 loop-again c =

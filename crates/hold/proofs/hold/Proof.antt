@@ -1,39 +1,27 @@
 -- `hold::hold` meets its contract. Assumes nothing.
 use mathlib.Core.Path.{sym, _∙_}
 use Rattle.pass.proofs.Pass.{refused, ran}
-use Rattle.hold.specs.Call.{planeOf}
+use Rattle.pass.specs.Pass.{planeOf}
 use Rattle.hold.proofs.Runs.{rule-is, runs}
 use borrow.Author.Needs.{needs}
 use Rattle.hold.proofs.hold.Statement.{statement}
 use Rattle.hold.proofs.hold.Tie as tie
-use Rattle.hold.proofs.hold.Reads as reads
-use Rattle.hold.proofs.hold.Lts as lts
-use Rattle.cells.proofs.step_down.Reads as step-down-reads
-use Rattle.hold.proofs.hold_refusal.Reads as hold-refusal-reads
-use Rattle.hold.proofs.hold_steps.Reads as hold-steps-reads
-use Rattle.plane.proofs.divided.Reads as divided-reads
 
--- src/lib.rt:216:9
 hold-refusal-requires : tie.Need-hold-refusal-requires
 hold-refusal-requires c κs = search needs
 
--- src/lib.rt:227:9
 same-length : tie.Need-same-length
 same-length c = search needs
 
--- src/lib.rt:227:9
 returns : tie.Need-returns
 returns c = refused _ _ _ _ (c .before .hold-refusal .ensures) (c .if1 .taken)
 
--- src/lib.rt:229:9
 divided-requires : tie.Need-divided-requires
 divided-requires c κs = search needs
 
--- src/lib.rt:230:9
 step-down-requires : tie.Need-step-down-requires
 step-down-requires c κs = search needs
 
--- src/lib.rt:231:5
 hold-steps-requires : tie.Need-hold-steps-requires
 hold-steps-requires c κs =
     let tested = c .before .before .before in
@@ -42,11 +30,9 @@ hold-steps-requires c κs =
     (runs (planeOf (a .output .now) (a .output-pitch)) (planeOf (a .held .now) (a .held-pitch)) (a .width) (a .height) (a .mask .now) (a .mask-width)
     (sym (tested .before .hold-refusal .ensures) ∙ tested .if1 .left))
 
--- src/lib.rt:204:1
 same-length-2 : tie.Need-same-length-2
 same-length-2 c = search needs
 
--- src/lib.rt:204:1
 returns-2 : tie.Need-returns-2
 returns-2 c =
     let held = c .before .before in

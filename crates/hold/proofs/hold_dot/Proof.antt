@@ -8,26 +8,16 @@ use Rattle.hold.proofs.Weights.{full-in, always}
 use borrow.Author.Needs.{needs}
 use Rattle.hold.proofs.hold_dot.Statement.{statement}
 use Rattle.hold.proofs.hold_dot.Tie as tie
-use Rattle.hold.proofs.hold_dot.Reads as reads
-use Rattle.hold.proofs.hold_dot.Lts as lts
-use Rattle.cells.proofs.byte_sum.Reads as byte-sum-reads
-use Rattle.cells.proofs.cell_count.Reads as cell-count-reads
-use Rattle.hold.proofs.weighed.Reads as weighed-reads
-use Rattle.plane.proofs.place.Reads as place-reads
 
--- src/lib.rt:35:21
 place-requires : tie.Need-place-requires
 place-requires c κs = search needs
 
--- src/lib.rt:35:16
 shared-slice-read-kept : tie.Need-shared-slice-read-kept
 shared-slice-read-kept c = search needs
 
--- src/lib.rt:36:9
 byte-sum-requires : tie.Need-byte-sum-requires
 byte-sum-requires c κs = search needs
 
--- src/lib.rt:37:22
 cell-count-requires : tie.Need-cell-count-requires
 cell-count-requires c κs = search needs
 
@@ -38,17 +28,14 @@ weight c =
     let cells = c .before .before .before .before .before .before .pre .1 in
     full-in _ _ (cells .some) (cells .small)
 
--- src/lib.rt:37:16
 mul-full : tie.Need-mul-full
 mul-full c = omega (arith, c .cell-count .ensures, weight c)
 
--- src/lib.rt:38:5
 weighed-requires : tie.Need-weighed-requires
 weighed-requires c κs =
     let w = weight c in
     rw (c .cell-count .ensures) (c .before .byte-sum .ensures .few, w .0, w .1)
 
--- src/lib.rt:21:1
 returns : tie.Need-returns
 unfolding put ruleBy
 returns c =

@@ -4,80 +4,55 @@ use Rattle.rules.specs.Refusals.{holdRefusal, firstFitting}
 use borrow.Author.Needs.{needs}
 use Rattle.hold.proofs.hold_refusal.Statement.{statement}
 use Rattle.hold.proofs.hold_refusal.Tie as tie
-use Rattle.hold.proofs.hold_refusal.Reads as reads
-use Rattle.hold.proofs.hold_refusal.Lts as lts
-use Rattle.cells.proofs.steps.Reads as steps-reads
-use Rattle.plane.proofs.both.Reads as both-reads
-use Rattle.plane.proofs.pitched.Reads as pitched-reads
-use Rattle.plane.proofs.planed.Reads as planed-reads
-use Rattle.plane.proofs.sized.Reads as sized-reads
-use Rattle.plane.proofs.unless.Reads as unless-reads
 
--- src/lib.rt:179:29
 sized-requires : tie.Need-sized-requires
 sized-requires c κs = search needs
 
--- src/lib.rt:179:50
 sized-requires-2 : tie.Need-sized-requires-2
 sized-requires-2 c κs = search needs
 
--- src/lib.rt:179:9
 both-requires : tie.Need-both-requires
 both-requires c κs = search needs
 
--- src/lib.rt:180:9
 steps-requires : tie.Need-steps-requires
 steps-requires c κs = search needs
 
--- src/lib.rt:182:9
 pitched-requires : tie.Need-pitched-requires
 pitched-requires c κs = search needs
 
--- src/lib.rt:183:21
 pitched-requires-2 : tie.Need-pitched-requires-2
 pitched-requires-2 c κs = search needs
 
--- src/lib.rt:183:9
 both-requires-2 : tie.Need-both-requires-2
 both-requires-2 c κs = search needs
 
--- src/lib.rt:181:9
 both-requires-3 : tie.Need-both-requires-3
 both-requires-3 c κs = search needs
 
--- src/lib.rt:186:9
 planed-requires : tie.Need-planed-requires
 planed-requires c κs = search needs
 
--- src/lib.rt:188:13
 planed-requires-2 : tie.Need-planed-requires-2
 planed-requires-2 c κs = search needs
 
--- src/lib.rt:187:9
 both-requires-4 : tie.Need-both-requires-4
 both-requires-4 c κs = search needs
 
--- src/lib.rt:185:9
 both-requires-5 : tie.Need-both-requires-5
 both-requires-5 c κs = search needs
 
--- src/lib.rt:198:39
 unless-requires : tie.Need-unless-requires
 unless-requires c κs = search needs
 
--- src/lib.rt:198:13
 unless-requires-2 : tie.Need-unless-requires-2
 unless-requires-2 c κs = search needs
 
--- src/lib.rt:195:9
 unless-requires-3 : tie.Need-unless-requires-3
 unless-requires-3 c κs = search needs
 
--- src/lib.rt:192:5
 unless-requires-4 : tie.Need-unless-requires-4
 unless-requires-4 c κs = search needs
 
--- src/lib.rt:167:1
 returns : tie.Need-returns
 unfolding holdRefusal firstFitting each
 returns c =

@@ -1,20 +1,16 @@
-use borrow.Author.Needs.{needs}
 -- `hold::hold_row` meets its contract. The invariant: the first x pixels are written. Assumes nothing.
-use mathlib.Core.Path.{_≡_, refl, _∙_}
+use borrow.Author.Needs.{needs}
+use mathlib.Core.Path.{_≡_, refl}
 use Prim.Native.Nat.{_≤_, _-_}
 use native.Mathlib.Nat.{le-antisymm}
 use native.Mathlib.Omega.{arith}
 use lib.ListN.{length, length-set}
-use Rattle.pass.specs.Pass.{RowPainted}
+use Rattle.pass.specs.Pass.{RowPainted, planeOf}
 use Rattle.pass.proofs.Pass.{row-none, row-more}
 use Rattle.cells.proofs.Places.{pixel-cells}
-use Rattle.hold.specs.Call.{planeOf, ruleBy}
+use Rattle.hold.specs.Call.{ruleBy}
 use Rattle.hold.proofs.hold_row.Statement.{statement}
 use Rattle.hold.proofs.hold_row.Tie as tie
-use Rattle.hold.proofs.hold_row.Reads as reads
-use Rattle.hold.proofs.hold_row.Lts as lts
-use Rattle.hold.proofs.hold_dot.Reads as hold-dot-reads
-use Rattle.plane.proofs.place.Reads as place-reads
 
 abbrev Inv-loop : tie.InvT-loop
 Inv-loop output₀ output-pitch held held-pitch width mask mask-width across down y x₀ output x =
@@ -23,48 +19,38 @@ Inv-loop output₀ output-pitch held held-pitch width mask mask-width across dow
 abbrev μ-loop : tie.MeasureT-loop
 μ-loop output₀ output-pitch held held-pitch width mask mask-width across down y x₀ output x = width - x
 
--- src/lib.rt:65:5
 loop-holds : tie.Need-loop-holds Inv-loop μ-loop
 loop-holds c = (row-none _ _ _ _, omega arith, refl)
 
--- src/lib.rt:66:13
 place-requires : tie.Need-place-requires Inv-loop μ-loop
 place-requires c κs = search needs
 
--- src/lib.rt:67:30
 slice-read-hold-dot : tie.Need-slice-read-hold-dot Inv-loop μ-loop
 slice-read-hold-dot c = search needs
 
--- src/lib.rt:67:21
 hold-dot-requires : tie.Need-hold-dot-requires Inv-loop μ-loop
 hold-dot-requires c κs =
     let l = c .before .before in
     (search needs, pixel-cells (l .before .before .before .before .before .pre .2) (l .loop-test .taken))
 
--- src/lib.rt:67:9
 slice-write-output : tie.Need-slice-write-output Inv-loop μ-loop
 slice-write-output c = search needs
 
--- src/lib.rt:68:9
 add-x : tie.Need-add-x Inv-loop μ-loop
 add-x c = search needs
 
--- src/lib.rt:65:5
 loop-less : tie.Need-loop-less Inv-loop μ-loop
 loop-less c = search needs
 
--- src/lib.rt:65:5
 loop-again : tie.Need-loop-again Inv-loop μ-loop
 loop-again c =
     let p = c .before .before in
     let inv = p .before .before .loop .inv in
     (rw (p .place .ensures) (row-more _ (inv .0) (rw (p .place .ensures) at (c .hold-dot .ensures))), omega arith, simp length-set (inv .2))
 
--- src/lib.rt:49:1
 same-length : tie.Need-same-length Inv-loop μ-loop
 same-length c = search needs
 
--- src/lib.rt:49:1
 returns : tie.Need-returns Inv-loop μ-loop
 returns c =
     let l = c .before .loop in

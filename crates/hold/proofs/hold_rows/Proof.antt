@@ -1,20 +1,17 @@
-use borrow.Author.Needs.{needs}
 -- `hold::hold_rows` meets its contract. The invariant: the first y rows are written. Assumes nothing.
+use borrow.Author.Needs.{needs}
 use mathlib.Core.Path.{_≡_, refl, _∙_}
 use Prim.Native.Nat.{_≤_, _-_}
 use native.Mathlib.Nat.{le-antisymm}
 use native.Mathlib.Omega.{arith}
 use lib.ListN.{length}
-use Rattle.pass.specs.Pass.{RowsPainted}
+use Rattle.pass.specs.Pass.{RowsPainted, planeOf}
 use Rattle.pass.proofs.Pass.{rows-none, rows-more}
 use Rattle.pass.proofs.Accepted.{row-in, row-as-long}
 use Rattle.cells.proofs.Places.{row-cells}
-use Rattle.hold.specs.Call.{planeOf, ruleBy}
+use Rattle.hold.specs.Call.{ruleBy}
 use Rattle.hold.proofs.hold_rows.Statement.{statement}
 use Rattle.hold.proofs.hold_rows.Tie as tie
-use Rattle.hold.proofs.hold_rows.Reads as reads
-use Rattle.hold.proofs.hold_rows.Lts as lts
-use Rattle.hold.proofs.hold_row.Reads as hold-row-reads
 
 abbrev Inv-loop : tie.InvT-loop
 Inv-loop output₀ output-pitch held held-pitch width height mask mask-width across down y₀ output y =
@@ -23,11 +20,9 @@ Inv-loop output₀ output-pitch held held-pitch width height mask mask-width acr
 abbrev μ-loop : tie.MeasureT-loop
 μ-loop output₀ output-pitch held held-pitch width height mask mask-width across down y₀ output y = height - y
 
--- src/lib.rt:89:5
 loop-holds : tie.Need-loop-holds Inv-loop μ-loop
 loop-holds c = (rows-none _ _ _ _, omega arith, refl)
 
--- src/lib.rt:90:9
 hold-row-requires : tie.Need-hold-row-requires Inv-loop μ-loop
 hold-row-requires c κs =
     let l = c .before .before in
@@ -35,26 +30,21 @@ hold-row-requires c κs =
     let below = c .before .loop-test .taken in
     (row-as-long (row-in (fits .0) below) (l .loop .inv .2), row-in (fits .1) below, row-cells (fits .2) below)
 
--- src/lib.rt:102:9
 add-y : tie.Need-add-y Inv-loop μ-loop
 add-y c = search needs
 
--- src/lib.rt:89:5
 loop-less : tie.Need-loop-less Inv-loop μ-loop
 loop-less c = search needs
 
--- src/lib.rt:89:5
 loop-again : tie.Need-loop-again Inv-loop μ-loop
 loop-again c =
     let row = c .before .before in
     let inv = row .before .before .before .loop .inv in
     (rows-more (inv .0) (row .hold-row .ensures), omega arith, row .hold-row .kept .0 ∙ inv .2)
 
--- src/lib.rt:73:1
 same-length : tie.Need-same-length Inv-loop μ-loop
 same-length c = search needs
 
--- src/lib.rt:73:1
 returns : tie.Need-returns Inv-loop μ-loop
 returns c =
     let l = c .before .loop in

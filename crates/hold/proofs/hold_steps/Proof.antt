@@ -4,16 +4,10 @@ use Rattle.cells.proofs.Covered.{steps-are}
 use borrow.Author.Needs.{needs}
 use Rattle.hold.proofs.hold_steps.Statement.{statement}
 use Rattle.hold.proofs.hold_steps.Tie as tie
-use Rattle.hold.proofs.hold_steps.Reads as reads
-use Rattle.hold.proofs.hold_steps.Lts as lts
-use Rattle.hold.proofs.hold_rows.Reads as hold-rows-reads
-use Rattle.plane.proofs.both.Reads as both-reads
 
--- src/lib.rt:122:8
 both-requires : tie.Need-both-requires
 both-requires c κs = search needs
 
--- src/lib.rt:123:9
 hold-rows-requires : tie.Need-hold-rows-requires
 hold-rows-requires c κs =
     let s = c .before .before in
@@ -22,11 +16,9 @@ hold-rows-requires c κs =
     let e = steps-are (a .across) (a .down) 1 1 (sym (s .both .ensures) ∙ c .before .if1 .taken) in
     (fits .0, fits .1, rw (e .0, e .1) at (fits .2))
 
--- src/lib.rt:135:9
 same-length : tie.Need-same-length
 same-length c = search needs
 
--- src/lib.rt:135:9
 returns : tie.Need-returns
 returns c =
     let d = c .before .before in
@@ -35,11 +27,9 @@ returns c =
     let e = steps-are (a .across) (a .down) 1 1 (sym (s .both .ensures) ∙ d .before .before .if1 .taken) in
     rw (e .0, e .1) (d .hold-rows .ensures)
 
--- src/lib.rt:137:8
 both-requires-2 : tie.Need-both-requires-2
 both-requires-2 c κs = search needs
 
--- src/lib.rt:138:9
 hold-rows-requires-2 : tie.Need-hold-rows-requires-2
 hold-rows-requires-2 c κs =
     let s = c .before .before in
@@ -48,11 +38,9 @@ hold-rows-requires-2 c κs =
     let e = steps-are (a .across) (a .down) 2 2 (sym (s .both2 .ensures) ∙ c .before .if2 .taken) in
     (fits .0, fits .1, rw (e .0, e .1) at (fits .2))
 
--- src/lib.rt:150:9
 same-length-2 : tie.Need-same-length-2
 same-length-2 c = search needs
 
--- src/lib.rt:150:9
 returns-2 : tie.Need-returns-2
 returns-2 c =
     let d = c .before .before in
@@ -61,15 +49,12 @@ returns-2 c =
     let e = steps-are (a .across) (a .down) 2 2 (sym (s .both2 .ensures) ∙ d .before .before .if2 .taken) in
     rw (e .0, e .1) (d .hold-rows2 .ensures)
 
--- src/lib.rt:152:5
 hold-rows-requires-3 : tie.Need-hold-rows-requires-3
 hold-rows-requires-3 c κs = search needs
 
--- src/lib.rt:107:1
 same-length-3 : tie.Need-same-length-3
 same-length-3 c = search needs
 
--- src/lib.rt:107:1
 returns-3 : tie.Need-returns-3
 returns-3 c = search needs
 

@@ -6,43 +6,33 @@ use Rattle.hold.proofs.Weights.{Products, products, byte}
 use borrow.Author.Needs.{needs}
 use Rattle.hold.proofs.weighed.Statement.{statement}
 use Rattle.hold.proofs.weighed.Tie as tie
-use Rattle.hold.proofs.weighed.Reads as reads
-use Rattle.hold.proofs.weighed.Lts as lts
 
 bound : (c : tie.Start) → Products (c .args .kept) (c .args .made) (c .args .sum) (c .args .full)
 bound c = products (c .args .kept) (c .args .made) (c .args .sum) (c .args .full) (c .fits .kept .fits) (c .fits .made .fits) (c .pre .0) (c .pre .2)
 
--- src/lib.rt:16:32
 sub-mixed : tie.Need-sub-mixed
 sub-mixed c = search needs
 
--- src/lib.rt:16:17
 mul-mixed : tie.Need-mul-mixed
 mul-mixed c = omega (arith, bound c)
 
--- src/lib.rt:16:46
 mul-mixed-2 : tie.Need-mul-mixed-2
 mul-mixed-2 c = omega (arith, bound c)
 
--- src/lib.rt:16:17
 add-mixed : tie.Need-add-mixed
 add-mixed c = omega (arith, bound c)
 
--- src/lib.rt:17:7
 add-result : tie.Need-add-result
 add-result c = omega (arith, bound c)
 
--- src/lib.rt:17:6
 div-result : tie.Need-div-result
 div-result c = search needs
 
--- src/lib.rt:17:5
 cast-result : tie.Need-cast-result
 cast-result c =
     let a = c .args in
     record { fits = byte (a .kept) (a .made) (a .sum) (a .full) (c .fits .kept .fits) (c .fits .made .fits) (c .pre .0) (c .pre .2) (c .pre .1) }
 
--- src/lib.rt:12:1
 returns : tie.Need-returns
 unfolding weighed
 returns c = refl

@@ -6,28 +6,19 @@ use Rattle.mask.proofs.Area.{divided}
 use borrow.Author.Needs.{needs}
 use Rattle.mask.proofs.exact.Statement.{statement}
 use Rattle.mask.proofs.exact.Tie as tie
-use Rattle.mask.proofs.exact.Reads as reads
-use Rattle.mask.proofs.exact.Lts as lts
-use Rattle.plane.proofs.both.Reads as both-reads
-use Rattle.plane.proofs.divides.Reads as divides-reads
 
--- src/lib.rt:32:21
 divides-requires : tie.Need-divides-requires
 divides-requires c κs = search needs
 
--- src/lib.rt:32:51
 div-both : tie.Need-div-both
 div-both c = search needs
 
--- src/lib.rt:32:9
 both-requires : tie.Need-both-requires
 both-requires c κs = search needs
 
--- src/lib.rt:26:1
 returns : tie.Need-returns
 returns c = rw (c .if1 .taken, mul-zero)
 
--- src/lib.rt:26:1
 returns-2 : tie.Need-returns-2
 returns-2 c =
     let a = c .before .before .before .args in

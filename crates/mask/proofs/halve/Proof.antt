@@ -9,8 +9,6 @@ use Rattle.rules.specs.Forms.{turns}
 use Rattle.pass.proofs.Tables.{filled, filled-length, filled-rest, filled-table}
 use Rattle.mask.proofs.halve.Statement.{statement}
 use Rattle.mask.proofs.halve.Tie as tie
-use Rattle.mask.proofs.halve.Reads as reads
-use Rattle.mask.proofs.halve.Lts as lts
 
 abbrev Inv-loop : tie.InvT-loop
 Inv-loop still₀ k₀ still k =
@@ -19,7 +17,6 @@ Inv-loop still₀ k₀ still k =
 abbrev μ-loop : tie.MeasureT-loop
 μ-loop still₀ k₀ still k = length still₀ - k
 
--- src/lib.rt:19:5
 -- a list that is half done is as long
 long : (c : tie.At-loop Inv-loop μ-loop) → length (c .loop .still) ≡ length (c .before .args .still .now)
 long c = rw (c .loop .inv .0) (filled-length (λ j. getD (c .before .args .still .now) j 0 / 2) (c .loop .k) (c .before .args .still .now))
@@ -28,23 +25,18 @@ loop-holds : tie.Need-loop-holds Inv-loop μ-loop
 unfolding turns
 loop-holds c = (refl, omega arith)
 
--- src/lib.rt:20:20
 slice-read-still : tie.Need-slice-read-still Inv-loop μ-loop
 slice-read-still c = search needs
 
--- src/lib.rt:20:9
 slice-write-still : tie.Need-slice-write-still Inv-loop μ-loop
 slice-write-still c = search needs
 
--- src/lib.rt:21:9
 add-k : tie.Need-add-k Inv-loop μ-loop
 add-k c = search needs
 
--- src/lib.rt:19:5
 loop-less : tie.Need-loop-less Inv-loop μ-loop
 loop-less c = omega (arith, long (c .before .before))
 
--- src/lib.rt:19:5
 loop-again : tie.Need-loop-again Inv-loop μ-loop
 unfolding turns
 loop-again c =
@@ -53,11 +45,9 @@ loop-again c =
     let old = filled-rest (λ j. getD list j 0 / 2) (l .loop .k) list (l .loop .k) 0 (omega arith) in
     (rw (l .loop .inv .0, old, add-one), omega (arith, long l))
 
--- src/lib.rt:15:1
 same-length : tie.Need-same-length Inv-loop μ-loop
 same-length c = long (c .before)
 
--- src/lib.rt:15:1
 returns : tie.Need-returns Inv-loop μ-loop
 returns c =
     let l = c .before in

@@ -4,79 +4,55 @@ use Rattle.rules.specs.Refusals.{maskRefusal, firstFitting}
 use borrow.Author.Needs.{needs}
 use Rattle.mask.proofs.mask_refusal.Statement.{statement}
 use Rattle.mask.proofs.mask_refusal.Tie as tie
-use Rattle.mask.proofs.mask_refusal.Reads as reads
-use Rattle.mask.proofs.mask_refusal.Lts as lts
-use Rattle.mask.proofs.exact.Reads as exact-reads
-use Rattle.plane.proofs.both.Reads as both-reads
-use Rattle.plane.proofs.pitched.Reads as pitched-reads
-use Rattle.plane.proofs.planed.Reads as planed-reads
-use Rattle.plane.proofs.sized.Reads as sized-reads
-use Rattle.plane.proofs.unless.Reads as unless-reads
 
--- src/lib.rt:50:29
 sized-requires : tie.Need-sized-requires
 sized-requires c κs = search needs
 
--- src/lib.rt:50:50
 sized-requires-2 : tie.Need-sized-requires-2
 sized-requires-2 c κs = search needs
 
--- src/lib.rt:50:9
 both-requires : tie.Need-both-requires
 both-requires c κs = search needs
 
--- src/lib.rt:51:9
 pitched-requires : tie.Need-pitched-requires
 pitched-requires c κs = search needs
 
--- src/lib.rt:52:40
 both-requires-2 : tie.Need-both-requires-2
 both-requires-2 c κs = search needs
 
--- src/lib.rt:52:9
 both-requires-3 : tie.Need-both-requires-3
 both-requires-3 c κs = search needs
 
--- src/lib.rt:54:9
 planed-requires : tie.Need-planed-requires
 planed-requires c κs = search needs
 
--- src/lib.rt:56:13
 planed-requires-2 : tie.Need-planed-requires-2
 planed-requires-2 c κs = search needs
 
--- src/lib.rt:55:9
 both-requires-4 : tie.Need-both-requires-4
 both-requires-4 c κs = search needs
 
--- src/lib.rt:53:9
 both-requires-5 : tie.Need-both-requires-5
 both-requires-5 c κs = search needs
 
--- src/lib.rt:60:9
 exact-requires : tie.Need-exact-requires
 exact-requires c κs = search needs
 
--- src/lib.rt:67:39
 unless-requires : tie.Need-unless-requires
 unless-requires c κs = search needs
 
--- src/lib.rt:67:13
 unless-requires-2 : tie.Need-unless-requires-2
 unless-requires-2 c κs = search needs
 
--- src/lib.rt:64:9
 unless-requires-3 : tie.Need-unless-requires-3
 unless-requires-3 c κs = search needs
 
--- src/lib.rt:61:5
 unless-requires-4 : tie.Need-unless-requires-4
 unless-requires-4 c κs = search needs
 
--- src/lib.rt:37:1
 returns : tie.Need-returns
 unfolding maskRefusal firstFitting each
-returns c =
+returns c = λ s.
     let lengths = c .before .before .before .before .before in
     let pitches = lengths .before .before .before .before in
     let sizes = pitches .before .before .before in

@@ -4,30 +4,22 @@ use Rattle.same.specs.Same.{detailBy}
 use borrow.Author.Needs.{needs}
 use Rattle.same.proofs.detail.Statement.{statement}
 use Rattle.same.proofs.detail.Tie as tie
-use Rattle.same.proofs.detail.Reads as reads
-use Rattle.same.proofs.detail.Lts as lts
 
--- src/lib.rt:45:15
 add-sum : tie.Need-add-sum
 add-sum c = search needs
 
--- src/lib.rt:45:15
 add-sum-2 : tie.Need-add-sum-2
 add-sum-2 c = search needs
 
--- src/lib.rt:45:15
 add-sum-3 : tie.Need-add-sum-3
 add-sum-3 c = search needs
 
--- src/lib.rt:46:6
 int-to-float-result : tie.Need-int-to-float-result
 int-to-float-result c = search needs
 
--- src/lib.rt:46:20
 int-to-float-result-2 : tie.Need-int-to-float-result-2
 int-to-float-result-2 c = search needs
 
--- src/lib.rt:42:1
 returns : tie.Need-returns
 unfolding detailBy
 returns c = refl

@@ -2,48 +2,34 @@
 use borrow.Author.Needs.{needs}
 use Rattle.same.proofs.detail_at.Statement.{statement}
 use Rattle.same.proofs.detail_at.Tie as tie
-use Rattle.same.proofs.detail_at.Reads as reads
-use Rattle.same.proofs.detail_at.Lts as lts
-use Rattle.plane.proofs.place.Reads as place-reads
-use Rattle.same.proofs.detail.Reads as detail-reads
 
--- src/lib.rt:54:19
 place-requires : tie.Need-place-requires
 place-requires c κs = search needs
 
--- src/lib.rt:54:13
 shared-slice-read-a : tie.Need-shared-slice-read-a
 shared-slice-read-a c = search needs
 
--- src/lib.rt:55:19
 place-requires-2 : tie.Need-place-requires-2
 place-requires-2 c κs = search needs
 
--- src/lib.rt:55:13
 shared-slice-read-b : tie.Need-shared-slice-read-b
 shared-slice-read-b c = search needs
 
--- src/lib.rt:56:19
 place-requires-3 : tie.Need-place-requires-3
 place-requires-3 c κs = search needs
 
--- src/lib.rt:56:13
 shared-slice-read-c : tie.Need-shared-slice-read-c
 shared-slice-read-c c = search needs
 
--- src/lib.rt:57:19
 place-requires-4 : tie.Need-place-requires-4
 place-requires-4 c κs = search needs
 
--- src/lib.rt:57:13
 shared-slice-read-d : tie.Need-shared-slice-read-d
 shared-slice-read-d c = search needs
 
--- src/lib.rt:58:5
 detail-requires : tie.Need-detail-requires
 detail-requires c κs = search needs
 
--- src/lib.rt:50:1
 returns : tie.Need-returns
 returns c =
     let rows = c .before .before .before .before in

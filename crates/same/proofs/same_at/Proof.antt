@@ -3,52 +3,34 @@ use Rattle.same.specs.Same.{sameBy}
 use borrow.Author.Needs.{needs}
 use Rattle.same.proofs.same_at.Statement.{statement}
 use Rattle.same.proofs.same_at.Tie as tie
-use Rattle.same.proofs.same_at.Reads as reads
-use Rattle.same.proofs.same_at.Lts as lts
-use Rattle.float.proofs.of_byte.Reads as of-byte-reads
-use Rattle.plane.proofs.place.Reads as place-reads
-use Rattle.same.proofs.apart.Reads as apart-reads
-use Rattle.same.proofs.bit.Reads as bit-reads
-use Rattle.same.proofs.detail_at.Reads as detail-at-reads
-use Rattle.same.proofs.is_same.Reads as is-same-reads
 
--- src/lib.rt:86:9
 place-requires : tie.Need-place-requires
 place-requires c κs = search needs
 
--- src/lib.rt:87:39
 shared-slice-read-apart : tie.Need-shared-slice-read-apart
 shared-slice-read-apart c = search needs
 
--- src/lib.rt:87:49
 shared-slice-read-apart-2 : tie.Need-shared-slice-read-apart-2
 shared-slice-read-apart-2 c = search needs
 
--- src/lib.rt:87:33
 apart-requires : tie.Need-apart-requires
 apart-requires c κs = search needs
 
--- src/lib.rt:87:18
 of-byte-requires : tie.Need-of-byte-requires
 of-byte-requires c κs = search needs
 
--- src/lib.rt:88:9
 detail-at-requires : tie.Need-detail-at-requires
 detail-at-requires c κs = search needs
 
--- src/lib.rt:89:9
 detail-at-requires-2 : tie.Need-detail-at-requires-2
 detail-at-requires-2 c κs = search needs
 
--- src/lib.rt:90:9
 is-same-requires : tie.Need-is-same-requires
 is-same-requires c κs = search needs
 
--- src/lib.rt:90:5
 bit-requires : tie.Need-bit-requires
 bit-requires c κs = search needs
 
--- src/lib.rt:71:1
 returns : tie.Need-returns
 unfolding sameBy
 returns c =

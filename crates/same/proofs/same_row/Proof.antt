@@ -1,5 +1,5 @@
-use borrow.Author.Needs.{needs}
 -- `same::same_row` meets its contract. The invariant: the first x pixels are stored. Assumes nothing.
+use borrow.Author.Needs.{needs}
 use mathlib.Core.Path.{_≡_, refl, _∙_}
 use Prim.Native.Nat.{_+_, _-_, _≤_, _<_}
 use native.Mathlib.Nat.{le-antisymm}
@@ -8,15 +8,11 @@ use lib.ListN.{length, length-set}
 use Rattle.rules.specs.Reading.{after}
 use Rattle.pass.specs.Table.{RowStored}
 use Rattle.pass.proofs.Tables.{row-none, row-more}
-use Rattle.same.specs.Same.{planeOf, settingsOf, sameBit}
+use Rattle.pass.specs.Pass.{planeOf}
+use Rattle.same.specs.Same.{settingsOf, sameBit}
 use Rattle.same.proofs.Rows.{around, same-here}
 use Rattle.same.proofs.same_row.Statement.{statement}
 use Rattle.same.proofs.same_row.Tie as tie
-use Rattle.same.proofs.same_row.Reads as reads
-use Rattle.same.proofs.same_row.Lts as lts
-use Rattle.plane.proofs.place.Reads as place-reads
-use Rattle.same.proofs.after.Reads as after-reads
-use Rattle.same.proofs.same_at.Reads as same-at-reads
 
 abbrev Inv-loop : tie.InvT-loop
 Inv-loop still₀ first second pitch width height limit edge tolerance y below last x₀ still x =
@@ -25,27 +21,21 @@ Inv-loop still₀ first second pitch width height limit edge tolerance y below l
 abbrev μ-loop : tie.MeasureT-loop
 μ-loop still₀ first second pitch width height limit edge tolerance y below last x₀ still x = last - x
 
--- src/lib.rt:109:9
 after-requires : tie.Need-after-requires Inv-loop μ-loop
 after-requires c κs = search needs
 
--- src/lib.rt:110:16
 sub-last : tie.Need-sub-last Inv-loop μ-loop
 sub-last c = search needs
 
--- src/lib.rt:112:5
 loop-holds : tie.Need-loop-holds Inv-loop μ-loop
 loop-holds c = (row-none _ _ _ _, omega arith, refl)
 
--- src/lib.rt:113:13
 place-requires : tie.Need-place-requires Inv-loop μ-loop
 place-requires c κs = search needs
 
--- src/lib.rt:122:13
 add-same-at : tie.Need-add-same-at Inv-loop μ-loop
 add-same-at c = search needs
 
--- src/lib.rt:114:20
 same-at-requires : tie.Need-same-at-requires Inv-loop μ-loop
 same-at-requires c κs =
     let l = c .before .before in
@@ -59,19 +49,15 @@ same-at-requires c κs =
     let under : a .result < start .args .height = omega (arith, a .ensures) in
     (around x (x + 1) y (a .result) (fits .1) in-row beside (fits .4) under, around x (x + 1) y (a .result) (fits .2) in-row beside (fits .4) under)
 
--- src/lib.rt:114:9
 slice-write-still : tie.Need-slice-write-still Inv-loop μ-loop
 slice-write-still c = search needs
 
--- src/lib.rt:126:9
 add-x : tie.Need-add-x Inv-loop μ-loop
 add-x c = search needs
 
--- src/lib.rt:112:5
 loop-less : tie.Need-loop-less Inv-loop μ-loop
 loop-less c = search needs
 
--- src/lib.rt:112:5
 loop-again : tie.Need-loop-again Inv-loop μ-loop
 loop-again c =
     let p = c .before in
@@ -81,11 +67,9 @@ loop-again c =
     let value = c .same-at .ensures ∙ same-here _ _ (a .width, a .height) _ (l .loop .x) _ (a .y) _ right (l .before .after .ensures) in
     (rw (p .place .ensures) (row-more _ (l .loop .inv .0) value), omega arith, simp length-set (l .loop .inv .2))
 
--- src/lib.rt:128:9
 place-requires-2 : tie.Need-place-requires-2 Inv-loop μ-loop
 place-requires-2 c κs = search needs
 
--- src/lib.rt:129:16
 same-at-requires-2 : tie.Need-same-at-requires-2 Inv-loop μ-loop
 same-at-requires-2 c κs =
     let a = c .before .before .before .after in
@@ -97,15 +81,12 @@ same-at-requires-2 c κs =
     let under : a .result < start .args .height = omega (arith, a .ensures) in
     (around last last y (a .result) (fits .1) in-row in-row (fits .4) under, around last last y (a .result) (fits .2) in-row in-row (fits .4) under)
 
--- src/lib.rt:129:5
 slice-write-still-2 : tie.Need-slice-write-still-2 Inv-loop μ-loop
 slice-write-still-2 c = search needs
 
--- src/lib.rt:94:1
 same-length : tie.Need-same-length Inv-loop μ-loop
 same-length c = search needs
 
--- src/lib.rt:94:1
 returns : tie.Need-returns Inv-loop μ-loop
 returns c =
     let p = c .before in

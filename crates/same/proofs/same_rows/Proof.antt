@@ -1,5 +1,5 @@
-use borrow.Author.Needs.{needs}
 -- `same::same_rows` meets its contract. The invariant: the first y rows are stored. Assumes nothing.
+use borrow.Author.Needs.{needs}
 use mathlib.Core.Path.{_≡_, refl, _∙_}
 use Prim.Native.Nat.{_-_, _≤_}
 use native.Mathlib.Nat.{le-antisymm}
@@ -8,12 +8,10 @@ use lib.ListN.{length}
 use Rattle.pass.specs.Table.{RowsStored}
 use Rattle.pass.proofs.Tables.{rows-none, rows-more}
 use Rattle.pass.proofs.Accepted.{row-in, row-as-long}
-use Rattle.same.specs.Same.{planeOf, settingsOf, sameBit}
+use Rattle.pass.specs.Pass.{planeOf}
+use Rattle.same.specs.Same.{settingsOf, sameBit}
 use Rattle.same.proofs.same_rows.Statement.{statement}
 use Rattle.same.proofs.same_rows.Tie as tie
-use Rattle.same.proofs.same_rows.Reads as reads
-use Rattle.same.proofs.same_rows.Lts as lts
-use Rattle.same.proofs.same_row.Reads as same-row-reads
 
 abbrev Inv-loop : tie.InvT-loop
 Inv-loop still₀ first second pitch width height limit edge tolerance y₀ still y =
@@ -22,11 +20,9 @@ Inv-loop still₀ first second pitch width height limit edge tolerance y₀ stil
 abbrev μ-loop : tie.MeasureT-loop
 μ-loop still₀ first second pitch width height limit edge tolerance y₀ still y = height - y
 
--- src/lib.rt:150:5
 loop-holds : tie.Need-loop-holds Inv-loop μ-loop
 loop-holds c = (rows-none _ _ _, omega arith, refl)
 
--- src/lib.rt:151:9
 same-row-requires : tie.Need-same-row-requires Inv-loop μ-loop
 same-row-requires c κs =
     let l = c .before .before in
@@ -34,26 +30,21 @@ same-row-requires c κs =
     let below = c .before .loop-test .taken in
     (row-as-long (row-in (fits .0) below) (l .loop .inv .2), fits .1, fits .2, fits .3, below)
 
--- src/lib.rt:154:9
 add-y : tie.Need-add-y Inv-loop μ-loop
 add-y c = search needs
 
--- src/lib.rt:150:5
 loop-less : tie.Need-loop-less Inv-loop μ-loop
 loop-less c = search needs
 
--- src/lib.rt:150:5
 loop-again : tie.Need-loop-again Inv-loop μ-loop
 loop-again c =
     let row = c .before .before in
     let inv = row .before .before .before .loop .inv in
     (rows-more (inv .0) (row .same-row .ensures), omega arith, row .same-row .kept .0 ∙ inv .2)
 
--- src/lib.rt:135:1
 same-length : tie.Need-same-length Inv-loop μ-loop
 same-length c = search needs
 
--- src/lib.rt:135:1
 returns : tie.Need-returns Inv-loop μ-loop
 returns c =
     let l = c .before .loop in

@@ -1,0 +1,42 @@
+use mathlib.Core.Path.{_≡_}
+use Prim.Native.Nat.{_+_, _*_, _/_, _≤_}
+use native.Mathlib.Nat.{div-le-self}
+use native.Mathlib.Omega.{arith}
+use Rattle.cell.proofs.Ends.{cell-end, ahead}
+use borrow.Author.Needs.{needs}
+use Rattle.cell.proofs.cell_end.Statement.{statement}
+use Rattle.cell.proofs.cell_end.Tie as tie
+use Rattle.cell.proofs.cell_end.Reads as reads
+use Rattle.cell.proofs.cell_end.Lts as lts
+use Rattle.cell.proofs.cell_of.Reads as cell-of-reads
+use Rattle.plane.proofs.place.Reads as place-reads
+
+-- src/lib.rt:29:28
+cell-of-requires : tie.Need-cell-of-requires
+cell-of-requires c κs = search needs
+
+-- src/lib.rt:29:9
+place-requires : tie.Need-place-requires
+place-requires c κs = omega (arith, c .cell-of .ensures, div-le-self (c .before .args .k) (c .before .args .side))
+
+-- src/lib.rt:25:1
+returns : tie.Need-returns
+returns c =
+    let a = c .before .before .before .args in
+    let h = c .before .before .before .pre in
+    let e : c .before .place .result ≡ a .k / a .side * a .side + a .side = rw (← c .before .before .cell-of .ensures) (c .before .place .ensures) in
+    let some : 1 ≤ a .side = omega arith in
+    let far = ahead (a .k) (a .side) some in
+    cell-end (a .k) (a .side) (a .size) (c .before .place .result) some (h .3) (omega arith) (omega arith) (omega arith)
+
+-- src/lib.rt:25:1
+returns-2 : tie.Need-returns-2
+returns-2 c =
+    let a = c .before .before .before .args in
+    let h = c .before .before .before .pre in
+    let e : c .before .place .result ≡ a .k / a .side * a .side + a .side = rw (← c .before .before .cell-of .ensures) (c .before .place .ensures) in
+    let some : 1 ≤ a .side = omega arith in
+    cell-end (a .k) (a .side) (a .size) (a .size) some (h .3) (omega arith) (omega arith) (h .3)
+
+pub cell-end-spec : {M : Type 1} → statement M
+cell-end-spec = tie.close (tie.spec cell-of-requires place-requires returns returns-2)

@@ -1,0 +1,79 @@
+-- The parts of a call as the search takes them, and what it leaves of them. Assumes nothing.
+use mathlib.Core.Path.{_≡_, refl, sym, ap, _∙_}
+use mathlib.Core.Bool.{Bool}
+use mathlib.Core.List.{List}
+use Prim.Native.Nat.{ℕ, _+_, _*_, _≤_}
+use native.Mathlib.Omega.{arith}
+use borrow.Author.Tests.{le-leb}
+use lib.ListN.{length}
+use lib.Ieee.{Float}
+use Rattle.rules.specs.declared.Answer.{Answer}
+use Rattle.rules.specs.Forms.{Part, Parts, cells}
+use Rattle.rules.specs.Float.{_⊗_}
+use Rattle.rules.specs.Refusals.{firstFitting, distancesRefusal}
+use Rattle.rules.specs.Distances.{distances}
+use Rattle.rules.specs.Assembly.{modelSlice}
+use Rattle.distances.specs.Call as Distances
+use Rattle.total.specs.declared.Counts.{Counts}
+use Rattle.total.specs.Around.{Made}
+use Rattle.total.specs.Alike.{Alike}
+use Rattle.window.specs.Lent.{lent}
+use Rattle.offsets.specs.declared.Grid.{Grid}
+use Rattle.keep.specs.Pass.{Sound, Kept}
+use Rattle.rough.specs.Search.{Searching, Searched}
+use Rattle.fit.specs.Call.{partOf, partsOf, Beside, Asks, Modelled}
+
+-- a count of cells is not 0
+some : (n : ℕ) → 1 ≤ n → 1 ≤ cells n
+some n h = omega arith
+
+-- distances of a cover of some width
+pub distances-are : (old left : List ℕ) (width : ℕ) (r : Answer) → 1 ≤ width → Distances.Done (record { cells = old; width = width }) left r → left ≡ distances old width
+unfolding distancesRefusal firstFitting
+distances-are old left width r h done = rw (le-leb 1 width h) at (done .cells)
+
+module _ (p p1 p2 o o1 o2 n n1 n2 : List Float) (before pairs after : ℕ) (c : Counts) (made : Made before pairs after c) where
+  abbrev parts : Parts
+  parts = partsOf (partOf p p1 p2 before) (partOf o o1 o2 pairs) (partOf n n1 n2 after)
+
+  -- the counts are the parts' own
+  lent-is : lent p p1 p2 o o1 o2 n n1 n2 c ≡ parts
+  lent-is = rw (made .previous-is, made .own-is, made .next-is)
+
+  module _ (g : Grid) (models : List Float) (kept cover : List ℕ) (asks : Asks parts g models kept cover) where
+    -- a neighbour's slices are as long as the own part's
+    long : (count own-count : ℕ) (own other : Part) → count ≡ other .pairs → Beside own other → 1 ≤ count
+        → (length (own .luma) ≤ length (other .luma)) × (length (own .chroma .0) ≤ length (other .chroma .0)) × (length (own .chroma .1) ≤ length (other .chroma .1))
+    long count own-count own other e beside h = let t = beside (rw e at h) in omega arith
+
+    pub searching : Searching c p p1 p2 o o1 o2 n n1 n2 g models kept
+    searching =
+        let first = long (c .previous) (c .own) (parts .own) (parts .previous) (made .previous-is) (asks .previous-long) in
+        let last = long (c .next) (c .own) (parts .own) (parts .next) (made .next-is) (asks .next-long) in
+        record {
+          formed = asks .formed;
+          ready = record {
+            counted = made .counted;
+            luma = record { before = λ h. first h .0; after = λ h. last h .0 };
+            chroma1 = record { before = λ h. first h .1; after = λ h. last h .1 };
+            chroma2 = record { before = λ h. first h .2; after = λ h. last h .2 };
+            planes = omega (arith, asks .first-long, asks .second-long);
+          };
+          own-long = asks .own-long;
+          chroma-long = asks .first-long;
+          models-long = asks .work .models-long;
+          kept-long = asks .work .kept-long;
+        }
+
+    -- what the search, the keeping pass and the distances leave
+    pub modelled : (limit evidence : Float) (strict : Bool) (found left : List Float) (flags marks cells' : List ℕ) (r : Answer)
+        → Searched (lent p p1 p2 o o1 o2 n n1 n2 c) g (limit ⊗ limit) evidence strict found flags
+        → Kept (modelSlice found (g .width * g .height)) (g .width, g .height) left marks
+        → Distances.Done (record { cells = marks; width = cells (g .width) }) cells' r
+        → Modelled parts g limit evidence strict left cells'
+    modelled limit evidence strict found left flags marks cells' r searched keeps done =
+        let rough = rw lent-is at (searched .rough-is) in
+        record {
+          models-are = rw rough at (keeps .models-are);
+          cover-is = distances-are marks cells' (cells (g .width)) r (some (g .width) (asks .formed .wide .0)) done ∙ ap (λ (l : List ℕ). distances l (cells (g .width))) (rw rough at (keeps .cover-is));
+        }

@@ -1,0 +1,34 @@
+-- `host::safeteal_peel` meets its contract: the call's own. Assumes nothing.
+use mathlib.Core.Path.{ap, _∙_}
+use borrow.Author.Needs.{needs}
+use Rattle.rules.specs.Host.{word as wordOf}
+use Rattle.host.proofs.safeteal_peel.Statement.{statement}
+use Rattle.host.proofs.safeteal_peel.Tie as tie
+
+slice-aggregate-peel : tie.Need-slice-aggregate-peel
+slice-aggregate-peel c = search needs
+
+slice-aggregate-peel-2 : tie.Need-slice-aggregate-peel-2
+slice-aggregate-peel-2 c = search needs
+
+slice-aggregate-peel-3 : tie.Need-slice-aggregate-peel-3
+slice-aggregate-peel-3 c = search needs
+
+peel-requires : tie.Need-peel-requires
+peel-requires c κs = search needs
+
+word-requires : tie.Need-word-requires
+word-requires c κs = search needs
+
+same-length : tie.Need-same-length
+same-length c = search needs
+
+returns : tie.Need-returns
+returns c =
+    let d = c .before .before .before .peel .ensures in
+    record { told = c .word .ensures ∙ ap wordOf (d .answered); slice = d .bytes }
+
+pub safeteal-peel-spec : {M : Type 1} → statement M
+safeteal-peel-spec =
+    tie.close
+    (tie.spec slice-aggregate-peel slice-aggregate-peel-2 slice-aggregate-peel-3 peel-requires word-requires same-length returns)

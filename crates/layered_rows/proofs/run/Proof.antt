@@ -1,0 +1,115 @@
+-- `layered_rows::run` meets its contract. Assumes nothing.
+use borrow.Author.Needs.{needs}
+use mathlib.Core.Path.{_≡_, refl, _∙_}
+use Prim.Native.Nat.{_-_, _≤_}
+use native.Mathlib.Nat.{le-antisymm}
+use native.Mathlib.Omega.{arith}
+use lib.ListN.{length}
+use Rattle.lent.specs.Lent.{lay}
+use Rattle.layered.specs.Works.{ruleOf}
+use Rattle.layered_rows.specs.Rows.{RowOn}
+use Rattle.layered_rows.proofs.Cells.{run-none, run-more}
+use Rattle.layered_rows.proofs.run.Statement.{statement}
+use Rattle.layered_rows.proofs.run.Tie as tie
+use Rattle.layered_rows.proofs.run.Reads as reads
+use Rattle.layered_rows.proofs.run.Lts as lts
+use Rattle.layered.proofs.dot.Reads as dot-reads
+use Rattle.plane.proofs.place.Reads as place-reads
+use Rattle.plane.proofs.stamp.Reads as stamp-reads
+
+abbrev Inv-loop : tie.InvT-loop
+Inv-loop output₀ opitch count work p l lb a ab b bb first fpitch second spitch y from to n₀ x₀ output n x =
+    RowOn (ruleOf work (lay (p .shape) l lb a ab b bb) (p .shape .plane) (record { bytes = first; pitch = fpitch }) (record { bytes = second; pitch = spitch })) opitch y from x count output₀ output n
+    × (from ≤ x)
+    × (x ≤ to)
+    × (length output ≡ length output₀)
+
+abbrev μ-loop : tie.MeasureT-loop
+μ-loop output₀ opitch count work p l lb a ab b bb first fpitch second spitch y from to n₀ x₀ output n x = to - x
+
+-- src/lib.rt:36:5
+loop-holds : tie.Need-loop-holds Inv-loop μ-loop
+loop-holds c = (run-none _ _ _ _ _ _, omega arith, omega arith, refl)
+
+-- src/lib.rt:37:13
+place-requires : tie.Need-place-requires Inv-loop μ-loop
+place-requires c κs = search needs
+
+-- src/lib.rt:38:19
+slice-read-old : tie.Need-slice-read-old Inv-loop μ-loop
+slice-read-old c =
+    let s = c .before .before .before .before .before .before .before .before .before .before in
+    let at-loop = c .before .before .before .loop in
+    omega (arith, c .before .place .ensures, s .pre .1 .room, at-loop .inv .3, c .before .before .loop-test .taken)
+
+-- src/lib.rt:39:13
+dot-requires : tie.Need-dot-requires Inv-loop μ-loop
+dot-requires c κs =
+    let s = c .before .before .before .before .before .before .before .before .before .before in
+    let at-loop = c .before .before .before .loop in
+    let below = c .before .before .loop-test .taken in (
+      s .pre .0 .ready,
+      s .pre .0 .fits,
+      record { left = omega (arith, s .pre .1 .within, below); above = s .pre .1 .above },
+      s .pre .2 (at-loop .x) (at-loop .inv .1) below,
+    )
+
+-- src/lib.rt:56:9
+stamp-requires : tie.Need-stamp-requires Inv-loop μ-loop
+stamp-requires c κs =
+    let s = c .before .before .before .before .before .before .before .before .before .before .before .before in
+    let at-loop = c .before .before .before .before .before .loop in
+    let below = c .before .before .before .before .loop-test .taken in (
+      omega (arith, c .before .before .before .place .ensures, s .pre .1 .room, at-loop .inv .3, below),
+      omega (arith, at-loop .inv .0 .few, s .pre .1 .few, below, at-loop .inv .1),
+    )
+
+-- src/lib.rt:57:9
+add-x : tie.Need-add-x Inv-loop μ-loop
+add-x c = search needs
+
+-- src/lib.rt:36:5
+loop-less : tie.Need-loop-less Inv-loop μ-loop
+loop-less c = search needs
+
+-- src/lib.rt:36:5
+loop-again : tie.Need-loop-again Inv-loop μ-loop
+loop-again c =
+    let stamped = c .before .before in
+    let ruled = stamped .before .before in
+    let placed = ruled .before .before in
+    let inv = placed .before .before .loop .inv in
+    let below = placed .before .loop-test .taken in
+    let e = placed .place .ensures in (
+      run-more (inv .1) (inv .0) (rw e at (ruled .dot .ensures)) (rw e at (stamped .stamp .ensures)),
+      omega arith,
+      omega arith,
+      stamped .stamp .kept .0 ∙ inv .3,
+    )
+
+-- src/lib.rt:11:1
+same-length : tie.Need-same-length Inv-loop μ-loop
+same-length c = search needs
+
+-- src/lib.rt:11:1
+returns : tie.Need-returns Inv-loop μ-loop
+returns c =
+    let at-loop = c .before .loop in
+    rw (le-antisymm (at-loop .inv .2) (c .loop-test .left)) at (at-loop .inv .0)
+
+pub run-spec : {M : Type 1} → statement M
+run-spec =
+    tie.close
+    (tie.spec
+    Inv-loop
+    μ-loop
+    loop-holds
+    place-requires
+    slice-read-old
+    dot-requires
+    stamp-requires
+    add-x
+    loop-less
+    loop-again
+    same-length
+    returns)

@@ -1,0 +1,15 @@
+-- `lift::added` meets its contract. Assumes nothing.
+use mathlib.Core.Path.{refl}
+use Rattle.rules.specs.Scene.{gathered}
+use Rattle.lift.proofs.added.Statement.{statement}
+use Rattle.lift.proofs.added.Tie as tie
+use Rattle.lift.proofs.added.Reads as reads
+use Rattle.lift.proofs.added.Lts as lts
+
+-- src/lib.rt:45:1
+returns : tie.Need-returns
+unfolding gathered
+returns c = refl
+
+pub added-spec : {M : Type 1} → statement M
+added-spec = tie.close (tie.spec returns)

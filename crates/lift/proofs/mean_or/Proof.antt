@@ -1,0 +1,20 @@
+-- `lift::mean_or` meets its contract. Assumes nothing.
+use mathlib.Core.Path.{sym}
+use Rattle.rules.specs.Scene.{meanOr}
+use Rattle.lift.proofs.mean_or.Statement.{statement}
+use Rattle.lift.proofs.mean_or.Tie as tie
+use Rattle.lift.proofs.mean_or.Reads as reads
+use Rattle.lift.proofs.mean_or.Lts as lts
+
+-- src/lib.rt:55:1
+returns : tie.Need-returns
+unfolding meanOr
+returns c = sym (simp (c .before .if1 .taken))
+
+-- src/lib.rt:55:1
+returns-2 : tie.Need-returns-2
+unfolding meanOr
+returns-2 c = sym (simp (c .if1 .left))
+
+pub mean-or-spec : {M : Type 1} → statement M
+mean-or-spec = tie.close (tie.spec returns returns-2)

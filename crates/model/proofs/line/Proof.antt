@@ -1,0 +1,12 @@
+-- `model::line` meets its contract. Assumes nothing.
+use mathlib.Core.Path.{refl}
+use Rattle.rules.specs.Model.{line}
+use Rattle.model.proofs.line.Statement.{statement}
+use Rattle.model.proofs.line.Tie as tie
+
+returns : tie.Need-returns
+unfolding line
+returns c = refl
+
+pub line-spec : {M : Type 1} → statement M
+line-spec = tie.close (tie.spec returns)

@@ -1,0 +1,30 @@
+-- `model::trust` meets its contract. Assumes nothing.
+use Rattle.rules.specs.Model.{trust}
+use borrow.Author.Needs.{needs}
+use Rattle.model.proofs.trust.Statement.{statement}
+use Rattle.model.proofs.trust.Tie as tie
+
+max-requires : tie.Need-max-requires
+max-requires c κs = search needs
+
+clamp-requires : tie.Need-clamp-requires
+clamp-requires c κs = search needs
+
+clamp-requires-2 : tie.Need-clamp-requires-2
+clamp-requires-2 c κs = search needs
+
+clamp-requires-3 : tie.Need-clamp-requires-3
+clamp-requires-3 c κs = search needs
+
+returns : tie.Need-returns
+unfolding trust
+returns c = rw (c .before .if1 .taken, c .clamp3 .ensures, c .before .before .clamp2 .ensures, c .before .before .before .clamp .ensures, c .before .before .before .before .max .ensures)
+
+returns-2 : tie.Need-returns-2
+unfolding trust
+returns-2 c = rw (c .if1 .left, c .before .clamp2 .ensures, c .before .before .clamp .ensures, c .before .before .before .max .ensures)
+
+pub trust-spec : {M : Type 1} → statement M
+trust-spec =
+    tie.close
+    (tie.spec max-requires clamp-requires clamp-requires-2 clamp-requires-3 returns returns-2)

@@ -1,0 +1,4 @@
+pub mod peel;
+pub mod peel_numbers;
+pub mod unpeel;
+pub mod unpeel_numbers;

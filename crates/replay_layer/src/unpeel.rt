@@ -1,0 +1,32 @@
+// The cases of unpeel.
+use cases_arguments::ROOM;
+use cases_arguments::bytes;
+use cases_arguments::float;
+use cases_arguments::size;
+use cases_loads::load_bytes;
+use cases_right::Check;
+
+pub fn run(all: &[u8], at: usize) -> Check {
+    let mut output = [0u8; ROOM];
+    let output = load_bytes(all, at, 3, &mut output);
+    let ours = host::safeteal_unpeel(
+        bytes(all, at, 0),
+        bytes(all, at, 1),
+        bytes(all, at, 2),
+        size(all, at, 0),
+        size(all, at, 1),
+        size(all, at, 2),
+        size(all, at, 3),
+        size(all, at, 4),
+        size(all, at, 5),
+        output,
+        size(all, at, 6),
+        bytes(all, at, 4),
+        size(all, at, 7),
+        bytes(all, at, 5),
+        size(all, at, 8),
+        float(all, at, 9),
+    );
+    let c = cases_right::answer(all, at, 6, ours);
+    cases_right::bytes(all, c, output)
+}

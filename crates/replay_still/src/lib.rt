@@ -1,0 +1,4 @@
+pub mod apply;
+pub mod distances;
+pub mod hold;
+pub mod mask;

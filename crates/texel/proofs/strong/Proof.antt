@@ -1,0 +1,47 @@
+-- `texel::strong` meets its contract. Assumes nothing.
+use mathlib.Core.Path.{_≡_, sym, _∙_}
+use lib.IntN.{pos, negℤ}
+use mir.Syntax.{w32}
+use mir.Val.{toZ, ofZ}
+use Rattle.lent.proofs.Signed.{back}
+use Rattle.stored.proofs.Texels.{nought}
+use Rattle.texel.specs.Least.{leastOf}
+use Rattle.texel.proofs.Fifth.{fifth-test, at-least, at-most, some-least, minus-fits}
+use borrow.Author.Needs.{needs}
+use Rattle.texel.proofs.strong.Statement.{statement}
+use Rattle.texel.proofs.strong.Tie as tie
+use Rattle.texel.proofs.strong.Reads as reads
+use Rattle.texel.proofs.strong.Lts as lts
+use Rattle.texel.proofs.least.Reads as least-reads
+
+least-is : (c : tie.After-least) → toZ w32 (ofZ w32 (c .least .result)) ≡ pos (leastOf (c .before .args .span))
+least-is c = back w32 (c .least .result) (c .least .ok) ∙ c .least .ensures
+
+-- src/lib.rt:47:9
+least-requires : tie.Need-least-requires
+least-requires c κs = search needs
+
+-- src/lib.rt:48:32
+sub-result : tie.Need-sub-result
+sub-result c = rw (least-is (c .before), nought (negℤ (pos (leastOf (c .before .before .args .span))))) (minus-fits (c .before .before .args .span))
+
+-- src/lib.rt:43:1
+returns : tie.Need-returns
+returns c =
+    let s = c .before .before in
+    let a = s .args in
+    let total = back w32 (a .total) (s .fits .total .sfits) in
+    let t = rw (least-is (c .before), total) at (c .if1 .taken) in
+    rw (least-is (c .before), total, fifth-test (a .total) (s .pre .0) (a .span) (s .pre .1) (s .pre .2) (s .pre .3)) (t ∙ sym (at-least (leastOf (a .span)) (a .total) t))
+
+-- src/lib.rt:43:1
+returns-2 : tie.Need-returns-2
+returns-2 c =
+    let s = c .before .before in
+    let a = s .args in
+    let total = back w32 (a .total) (s .fits .total .sfits) in
+    let t = rw (least-is (c .before), total) at (c .if1 .left) in
+    rw (least-is (c .before), total, nought (negℤ (pos (leastOf (a .span)))), back w32 (negℤ (pos (leastOf (a .span)))) (minus-fits (a .span) .sfits), fifth-test (a .total) (s .pre .0) (a .span) (s .pre .1) (s .pre .2) (s .pre .3)) (at-most (leastOf (a .span)) (a .total) (some-least (a .span)) t)
+
+pub strong-spec : {M : Type 1} → statement M
+strong-spec = tie.close (tie.spec least-requires sub-result returns returns-2)

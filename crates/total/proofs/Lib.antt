@@ -1,0 +1,2 @@
+-- Laws of totals.
+pub mod Held

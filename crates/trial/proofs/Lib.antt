@@ -1,0 +1,2 @@
+-- Laws of the best trial.
+pub mod Picked

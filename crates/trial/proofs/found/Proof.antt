@@ -1,0 +1,26 @@
+-- `trial::found` meets its contract. Assumes nothing.
+use Rattle.rules.specs.Window.{found}
+use borrow.Author.Needs.{needs}
+use Rattle.trial.proofs.found.Statement.{statement}
+use Rattle.trial.proofs.found.Tie as tie
+
+is-plain-requires : tie.Need-is-plain-requires
+is-plain-requires c κs = search needs
+
+all-requires : tie.Need-all-requires
+all-requires c κs = search needs
+
+returns : tie.Need-returns
+unfolding found
+returns c =
+    let t = rw (c .before .all .ensures, c .before .before .before .is-plain .ensures) at (c .if1 .taken) in
+    rw t
+
+returns-2 : tie.Need-returns-2
+unfolding found
+returns-2 c =
+    let t = rw (c .before .all .ensures, c .before .before .before .is-plain .ensures) at (c .if1 .left) in
+    rw t
+
+pub found-spec : {M : Type 1} → statement M
+found-spec = tie.close (tie.spec is-plain-requires all-requires returns returns-2)

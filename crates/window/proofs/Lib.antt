@@ -1,0 +1,3 @@
+-- Laws of the search.
+pub mod Held
+pub mod Unseen

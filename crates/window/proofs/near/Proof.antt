@@ -1,0 +1,23 @@
+-- `window::near` meets its contract. Assumes nothing.
+use borrow.Author.Needs.{needs}
+use Rattle.window.proofs.near.Statement.{statement}
+use Rattle.window.proofs.near.Tie as tie
+
+strictly-set-requires : tie.Need-strictly-set-requires
+strictly-set-requires c κs = search needs
+
+strictly-set-requires-2 : tie.Need-strictly-set-requires-2
+strictly-set-requires-2 c κs = search needs
+
+returns : tie.Need-returns
+returns c =
+    let t = rw (c .before .strictly-set .ensures) at (c .if1 .taken) in
+    rw (c .before .strictly-set .ensures, t)
+
+returns-2 : tie.Need-returns-2
+returns-2 c =
+    let t = rw (c .before .before .strictly-set .ensures) at (c .before .if1 .left) in
+    rw (c .strictly-set2 .ensures, t)
+
+pub near-spec : {M : Type 1} → statement M
+near-spec = tie.close (tie.spec strictly-set-requires strictly-set-requires-2 returns returns-2)

@@ -1,0 +1,51 @@
+-- `window::search` meets its contract. Assumes nothing.
+use mathlib.Core.Path.{sym, _∙_}
+use Rattle.rules.specs.Window.{window}
+use Rattle.window.specs.Second.{secondOf}
+use borrow.Author.Needs.{needs}
+use Rattle.window.proofs.search.Statement.{statement}
+use Rattle.window.proofs.search.Tie as tie
+
+pick-requires : tie.Need-pick-requires
+pick-requires c κs = search needs
+
+enum-known-m : tie.Need-enum-known-m
+enum-known-m c = search needs
+
+enum-told : tie.Need-enum-told
+enum-told c = search needs
+
+second-requires : tie.Need-second-requires
+second-requires c κs = search needs
+
+pick-requires-2 : tie.Need-pick-requires-2
+pick-requires-2 c κs = search needs
+
+returns : tie.Need-returns
+unfolding window secondOf
+returns c =
+    let e = sym (c .before .before .before .pick .ensures) ∙ c .before .m .given .1 in
+    rw (c .before .before .before .before .if1 .taken, e)
+
+returns-2 : tie.Need-returns-2
+unfolding window secondOf
+returns-2 c =
+    let e = sym (c .before .before .before .pick .ensures) ∙ c .before .enum-told .given .1 in
+    rw (c .second .ensures, c .before .before .before .before .if1 .taken, e)
+
+returns-3 : tie.Need-returns-3
+unfolding window secondOf
+returns-3 c = rw (c .pick2 .ensures, c .before .if1 .left)
+
+pub search-spec : {M : Type 1} → statement M
+search-spec =
+    tie.close
+    (tie.spec
+    pick-requires
+    enum-known-m
+    enum-told
+    second-requires
+    pick-requires-2
+    returns
+    returns-2
+    returns-3)

@@ -1,0 +1,26 @@
+-- `window::second` meets its contract. Assumes nothing.
+use Rattle.window.specs.Second.{secondOf}
+use borrow.Author.Needs.{needs}
+use Rattle.window.proofs.second.Statement.{statement}
+use Rattle.window.proofs.second.Tie as tie
+
+near-requires : tie.Need-near-requires
+near-requires c κs = search needs
+
+pick-requires : tie.Need-pick-requires
+pick-requires c κs = search needs
+
+returns : tie.Need-returns
+unfolding secondOf
+returns c =
+    let t = rw (c .before .before .near .ensures) at (c .before .if1 .taken) in
+    rw (c .pick .ensures, t)
+
+returns-2 : tie.Need-returns-2
+unfolding secondOf
+returns-2 c =
+    let t = rw (c .before .near .ensures) at (c .if1 .left) in
+    rw t
+
+pub second-spec : {M : Type 1} → statement M
+second-spec = tie.close (tie.spec near-requires pick-requires returns returns-2)

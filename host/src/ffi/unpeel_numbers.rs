@@ -1,0 +1,77 @@
+//! `safeteal_unpeel_numbers`.
+
+extern "C" {
+    fn safeteal_unpeel_numbers(
+        luma: *const i16,
+        luma_len: usize,
+        chroma1: *const i16,
+        chroma1_len: usize,
+        chroma2: *const i16,
+        chroma2_len: usize,
+        luma_pitch: usize,
+        chroma_pitch: usize,
+        width: usize,
+        height: usize,
+        ratio: usize,
+        plane: usize,
+        output: *mut u8,
+        output_len: usize,
+        output_pitch: usize,
+        first: *const u8,
+        first_len: usize,
+        first_pitch: usize,
+        second: *const u8,
+        second_len: usize,
+        second_pitch: usize,
+        time: f32,
+    ) -> u64;
+}
+
+/// Lays the layer back onto one plane.
+pub fn call(
+    luma: &[i16],
+    chroma1: &[i16],
+    chroma2: &[i16],
+    luma_pitch: usize,
+    chroma_pitch: usize,
+    width: usize,
+    height: usize,
+    ratio: usize,
+    plane: usize,
+    output: &mut [u8],
+    output_pitch: usize,
+    first: &[u8],
+    first_pitch: usize,
+    second: &[u8],
+    second_pitch: usize,
+    time: f32,
+) -> u64 {
+    // SAFETY: each pointer and the length after it are those of one slice, borrowed until the call returns; the
+    // borrows keep written slices apart from all others, and the proved function has no other requirement.
+    unsafe {
+        safeteal_unpeel_numbers(
+            luma.as_ptr(),
+            luma.len(),
+            chroma1.as_ptr(),
+            chroma1.len(),
+            chroma2.as_ptr(),
+            chroma2.len(),
+            luma_pitch,
+            chroma_pitch,
+            width,
+            height,
+            ratio,
+            plane,
+            output.as_mut_ptr(),
+            output.len(),
+            output_pitch,
+            first.as_ptr(),
+            first.len(),
+            first_pitch,
+            second.as_ptr(),
+            second.len(),
+            second_pitch,
+            time,
+        )
+    }
+}
