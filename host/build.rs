@@ -83,6 +83,7 @@ fn link(root: &Path) {
     }
     println!("cargo:rustc-link-search=native={}", folder.display());
     println!("cargo:rustc-link-lib=static=host");
+    println!("cargo:rustc-env=SAFETEAL_LINKED={}", folder.display());
 }
 
 /// Proves the crate `host` and writes target/staticlib/libhost.a in the project's root.

@@ -1,16 +1,25 @@
 //! A call's one 64-bit answer, `count * 256 + number`, taken apart.
 
-use crate::Refusal;
+use crate::error::Search;
+use crate::{Error, Refusal};
 
-/// The count, or the refusal that the number names.
-pub fn counted(word: u64) -> Result<u64, Refusal> {
+/// The count, or the refusal that the number names, with what the search finds in the arguments.
+pub(crate) fn counted(
+    call: &'static str,
+    word: u64,
+    arguments: impl FnOnce(Search) -> Search,
+) -> Result<u64, Error> {
     match Refusal::from_number(word % 256) {
         None => Ok(word / 256),
-        Some(refusal) => Err(refusal),
+        Some(refusal) => Err(Error::of(call, refusal, arguments)),
     }
 }
 
 /// For a call that counts nothing.
-pub fn done(word: u64) -> Result<(), Refusal> {
-    counted(word).map(|_| ())
+pub(crate) fn done(
+    call: &'static str,
+    word: u64,
+    arguments: impl FnOnce(Search) -> Search,
+) -> Result<(), Error> {
+    counted(call, word, arguments).map(|_| ())
 }

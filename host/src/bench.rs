@@ -3,16 +3,54 @@
 pub mod report;
 pub mod scene;
 
+/// A call's workloads at mask steps of a pixel: for each, a mask with nothing, half or everything marked.
+macro_rules! at_steps {
+    ($call:literal, $make:ident) => {
+        at_steps!($call, $make, (2, 1), (1, 2), (3, 1), (4, 4), (8, 8))
+    };
+    ($call:literal, $make:ident, $($step:tt),*) => {
+        &[$(
+            at_steps!(one $call, $make, $step, ", nothing marked", None),
+            at_steps!(one $call, $make, $step, ", half marked", Half),
+            at_steps!(one $call, $make, $step, ", all marked", All),
+        )*]
+    };
+    (one $call:literal, $make:ident, ($across:literal, $down:literal), $marked:literal, $part:ident) => {
+        Workload {
+            call: $call,
+            name: concat!("step ", $across, "×", $down, $marked),
+            make: |width, height| $make((width / $across, height / $down), ($across, $down), Marked::$part),
+        }
+    };
+}
+
+/// A call's workloads over a layer: for each, its lettering and the plane of the frames.
+macro_rules! over_layers {
+    ($call:literal, $make:ident, $(($lettering:ident, $plane:ident)),*) => {
+        &[$(Workload {
+            call: $call,
+            name: concat!(over_layers!($lettering), ", ", stringify!($plane)),
+            make: |width, height| $make(Lettering::$lettering.fitted(width, height), over_layers!($plane)),
+        }),*]
+    };
+    (Logo) => { "a fitted logo" };
+    (All) => { "every pixel layered" };
+    (Opaque) => { "every ring failing" };
+    (luma) => { 0 };
+    (chroma) => { 1 };
+}
+
 pub mod apply;
 pub mod assemble;
 pub mod distances;
+pub mod empty;
+pub mod fit;
 pub mod hold;
 pub mod mask;
 pub mod peel;
-pub mod peel_numbers;
+pub mod render;
 pub mod stats;
 pub mod unpeel;
-pub mod unpeel_numbers;
 
 use std::time::{Duration, Instant};
 
@@ -21,13 +59,18 @@ pub const CALLS: &[&[Workload]] = &[
     distances::WORKLOADS,
     mask::WORKLOADS,
     apply::WORKLOADS,
+    apply::STEPS,
     hold::WORKLOADS,
-    peel::WORKLOADS,
-    unpeel::WORKLOADS,
-    peel_numbers::WORKLOADS,
-    unpeel_numbers::WORKLOADS,
+    hold::STEPS,
+    peel::BYTES,
+    unpeel::BYTES,
+    peel::NUMBERS,
+    unpeel::NUMBERS,
+    empty::WORKLOADS,
     stats::WORKLOADS,
     assemble::WORKLOADS,
+    fit::WORKLOADS,
+    render::WORKLOADS,
 ];
 
 /// The sizes of luma, and how many rounds each gets at most.

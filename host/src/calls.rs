@@ -15,9 +15,7 @@ pub use hold::hold;
 mod peel;
 mod unpeel;
 
-mod peel_numbers;
-mod unpeel_numbers;
-
+mod empty;
 
 mod stats;
 pub use stats::stats;
@@ -25,4 +23,7 @@ pub use stats::stats;
 mod assemble;
 pub use assemble::assemble;
 
+mod fit;
+pub use fit::{fit, Settings, Work};
 
+mod render;

@@ -17,17 +17,19 @@ pub mod run;
 pub mod show;
 pub mod shrink;
 pub mod stored;
+pub mod table;
 
 pub mod apply;
 pub mod assemble;
 pub mod distances;
+pub mod empty;
+pub mod fit;
 pub mod hold;
 pub mod mask;
 pub mod peel;
-pub mod peel_numbers;
+pub mod render;
 pub mod stats;
 pub mod unpeel;
-pub mod unpeel_numbers;
 
 pub use case::Case;
 pub use run::Call;
@@ -38,10 +40,13 @@ pub const CALLS: &[Call] = &[
     Call::of::<mask::Mask>(1),
     Call::of::<apply::Apply>(2),
     Call::of::<hold::Hold>(3),
-    Call::of::<peel::Peel>(4),
-    Call::of::<unpeel::Unpeel>(5),
-    Call::of::<peel_numbers::PeelNumbers>(6),
-    Call::of::<unpeel_numbers::UnpeelNumbers>(7),
+    Call::of::<peel::Peel<u8>>(4),
+    Call::of::<unpeel::Unpeel<u8>>(5),
+    Call::of::<peel::Peel<i16>>(6),
+    Call::of::<unpeel::Unpeel<i16>>(7),
+    Call::of::<empty::Empty>(8),
     Call::of::<stats::Stats>(9),
     Call::of::<assemble::Assemble>(10),
+    Call::of::<fit::Fit>(11),
+    Call::of::<render::Render>(12),
 ];

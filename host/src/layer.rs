@@ -1,4 +1,5 @@
-use crate::{Refusal, Size};
+use crate::groups::LentLayer;
+use crate::{Error, Ratio, Size};
 
 /// A layer to read: what lettering does to each pixel, and how far the next lettering is.
 ///
@@ -15,7 +16,7 @@ pub struct Layer<'a> {
     /// The size of luma.
     pub size: Size,
     /// Luma pixels per chroma pixel, each way.
-    pub ratio: usize,
+    pub ratio: Ratio,
 }
 
 /// A layer lent as little-endian bytes, two for each number; a byte left over at an end is passed over.
@@ -32,8 +33,49 @@ pub struct LayerBytes<'a> {
     /// The size of luma.
     pub size: Size,
     /// Luma pixels per chroma pixel, each way.
-    pub ratio: usize,
+    pub ratio: Ratio,
 }
+
+impl<'a> Layer<'a> {
+    pub(crate) fn lent(&self) -> LentLayer<'a, i16> {
+        lent(self.luma, self.chroma, self.pitch, self.size, self.ratio)
+    }
+}
+
+impl<'a> LayerBytes<'a> {
+    pub(crate) fn lent(&self) -> LentLayer<'a, u8> {
+        lent(self.luma, self.chroma, self.pitch, self.size, self.ratio)
+    }
+}
+
+fn lent<'a, T>(
+    luma: &'a [T],
+    chroma: [&'a [T]; 2],
+    pitch: (usize, usize),
+    size: Size,
+    ratio: Ratio,
+) -> LentLayer<'a, T> {
+    LentLayer {
+        luma,
+        chroma,
+        pitch,
+        size,
+        ratio: ratio.number(),
+    }
+}
+
+/// One pixel of gain 0 among others of gain 1, all marked.
+#[cfg(test)]
+pub(crate) const ONE_OF_GAIN_0: Layer = Layer {
+    luma: &[
+        0, 4096, 4096, 4096, 4096, 4096, 4096, 4096, 4096, 4096, 4096, 4096, 4096, 4096, 4096,
+        4096, 0, 0, 0, 0, 0, 0, 0, 0, 0, 0, 0, 0, 0, 0, 0, 0,
+    ],
+    chroma: [&[0; 8], &[0; 8]],
+    pitch: (8, 4),
+    size: Size::new(8, 2),
+    ratio: Ratio::Two,
+};
 
 /// The slices of a layer that is to be made: exactly `2 * width * height` and `2 * width/ratio * height/ratio` numbers.
 #[derive(Debug)]
@@ -50,20 +92,19 @@ pub struct LayerBuf {
     luma: Vec<i16>,
     chroma: [Vec<i16>; 2],
     size: Size,
-    ratio: usize,
+    ratio: Ratio,
 }
 
 impl LayerBuf {
     /// A layer of zeros, to be filled by `fit` or `assemble`.
     ///
     /// # Errors
-    /// [`Refusal::Size`] and [`Refusal::Ratio`], as in every call.
-    pub fn new(size: Size, ratio: usize) -> Result<Self, Refusal> {
-        let pixels = measured(size, ratio)?;
-        let half = vec![0; 2 * (pixels / (ratio * ratio))];
+    /// `Refusal::Size` and `Refusal::Ratio`, as in every call.
+    pub fn new(size: Size, ratio: Ratio) -> Result<Self, Error> {
+        let (luma, chroma) = size.pixels_of(ratio, "LayerBuf::new")?;
         Ok(Self {
-            luma: vec![0; 2 * pixels],
-            chroma: [half.clone(), half],
+            luma: vec![0; 2 * luma],
+            chroma: [vec![0; 2 * chroma], vec![0; 2 * chroma]],
             size,
             ratio,
         })
@@ -75,7 +116,7 @@ impl LayerBuf {
         Layer {
             luma: &self.luma,
             chroma: [&self.chroma[0], &self.chroma[1]],
-            pitch: (self.size.width, self.size.width / self.ratio),
+            pitch: (self.size.width, self.size.width / self.ratio.number()),
             size: self.size,
             ratio: self.ratio,
         }
@@ -99,19 +140,7 @@ impl LayerBuf {
 
     /// Luma pixels per chroma pixel, each way.
     #[must_use]
-    pub fn ratio(&self) -> usize {
+    pub fn ratio(&self) -> Ratio {
         self.ratio
     }
-}
-
-/// The luma pixels of a size inside the limits, so that buffers can be made for it.
-pub fn measured(size: Size, ratio: usize) -> Result<usize, Refusal> {
-    let (width, height) = (size.width, size.height);
-    if !(1..=4096).contains(&width) || !(1..=4096).contains(&height) {
-        return Err(Refusal::Size);
-    }
-    if !matches!(ratio, 1 | 2 | 4) || width % ratio != 0 || height % ratio != 0 {
-        return Err(Refusal::Ratio);
-    }
-    Ok(width * height)
 }

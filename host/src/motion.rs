@@ -1,6 +1,9 @@
-use crate::Plane;
+use crate::{Channel, Error, Frame, Plane, Refusal, Size};
 
 /// Motion between two frames: two fields each way over a grid of blocks, 1024 being no motion.
+///
+/// `backward` says where a pixel of the second frame is found in the first, `forward` where a pixel of the first is
+/// found in the second; both in steps of 1 / `pel` pixels of luma.
 #[derive(Clone, Copy, Debug)]
 pub struct Motion<'a> {
     /// Forward motion along x and along y.
@@ -17,6 +20,76 @@ pub struct Motion<'a> {
     pub pel: i32,
 }
 
+/// Motion with fields of its own, over blocks of 16 by 16 luma pixels.
+///
+/// ```
+/// use safeteal::{MotionBuf, Size};
+///
+/// // The camera went six pixels to the right: what the second frame shows stood farther right in the first.
+/// let motion = MotionBuf::pan(Size::new(640, 360), (6, 0))?;
+/// assert_eq!(motion.motion().grid, (40, 23));
+/// assert_eq!((motion.motion().backward.0[0], motion.motion().forward.0[0]), (1030, 1018));
+/// # Ok::<(), safeteal::Error>(())
+/// ```
+#[derive(Clone, Debug, PartialEq, Eq)]
+pub struct MotionBuf {
+    forward: (Vec<u16>, Vec<u16>),
+    backward: (Vec<u16>, Vec<u16>),
+    grid: (usize, usize),
+}
+
+impl MotionBuf {
+    const BLOCK: usize = 16;
+
+    /// The same motion everywhere: the camera went so many pixels right and down between the two frames.
+    ///
+    /// # Errors
+    /// `Refusal::Size`; `Refusal::Motion` for more than 1024 pixels either way.
+    pub fn pan(size: Size, (right, down): (i32, i32)) -> Result<Self, Error> {
+        let call = "MotionBuf::pan";
+        size.pixels(call)?;
+        let grid = (
+            size.width.div_ceil(Self::BLOCK),
+            size.height.div_ceil(Self::BLOCK),
+        );
+        let field = |pixels: i32| {
+            if !(-1024..=1024).contains(&pixels) {
+                return Err(Error::of(call, Refusal::Motion, |search| {
+                    search.pan(pixels)
+                }));
+            }
+            Ok(vec![(1024 + pixels) as u16; grid.0 * grid.1])
+        };
+        Ok(Self {
+            forward: (field(-right)?, field(-down)?),
+            backward: (field(right)?, field(down)?),
+            grid,
+        })
+    }
+
+    /// No motion anywhere.
+    ///
+    /// # Errors
+    /// `Refusal::Size`.
+    pub fn still(size: Size) -> Result<Self, Error> {
+        Self::pan(size, (0, 0))
+    }
+
+    /// The motion to read.
+    #[must_use]
+    pub fn motion(&self) -> Motion<'_> {
+        let block = Self::BLOCK as i32;
+        Motion {
+            forward: (&self.forward.0, &self.forward.1),
+            backward: (&self.backward.0, &self.backward.1),
+            grid: self.grid,
+            block: (block, block),
+            origin: (0, 0),
+            pel: 1,
+        }
+    }
+}
+
 /// One plane of two neighbouring frames, and the time between them.
 #[derive(Clone, Copy, Debug)]
 pub struct Frames<'a> {
@@ -28,6 +101,18 @@ pub struct Frames<'a> {
     pub time: f32,
 }
 
+impl<'a> Frames<'a> {
+    /// One plane of each of two frames.
+    #[must_use]
+    pub fn of(channel: Channel, first: &'a Frame, second: &'a Frame, time: f32) -> Self {
+        Self {
+            first: first[channel].plane(),
+            second: second[channel].plane(),
+            time,
+        }
+    }
+}
+
 /// Two neighbouring frames with the motion between them.
 #[derive(Clone, Copy, Debug)]
 pub struct Pair<'a> {
@@ -37,4 +122,16 @@ pub struct Pair<'a> {
     pub second: [Plane<'a>; 3],
     /// The motion between them.
     pub motion: Motion<'a>,
+}
+
+impl<'a> Pair<'a> {
+    /// All planes of two frames.
+    #[must_use]
+    pub fn of(first: &'a Frame, second: &'a Frame, motion: &'a MotionBuf) -> Self {
+        Self {
+            first: first.planes(),
+            second: second.planes(),
+            motion: motion.motion(),
+        }
+    }
 }

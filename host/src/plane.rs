@@ -1,5 +1,9 @@
-/// Width and height in pixels.
-#[derive(Clone, Copy, Debug, PartialEq, Eq)]
+use std::ops::{Index, IndexMut};
+
+use crate::{Error, Refusal};
+
+/// Width and height in pixels; the calls take 1 to 4096 each.
+#[derive(Clone, Copy, Debug, PartialEq, Eq, Hash)]
 pub struct Size {
     /// Pixels in a row.
     pub width: usize,
@@ -14,15 +18,110 @@ impl Size {
         Self { width, height }
     }
 
+    /// The size of one plane, where this is luma's.
+    ///
+    /// ```
+    /// use safeteal::{Channel, Ratio, Size};
+    ///
+    /// let luma = Size::new(640, 360);
+    /// assert_eq!(luma.plane(Channel::Luma, Ratio::Two), luma);
+    /// assert_eq!(luma.plane(Channel::Chroma1, Ratio::Two), Size::new(320, 180));
+    /// ```
+    #[must_use]
+    pub const fn plane(self, channel: Channel, ratio: Ratio) -> Self {
+        self.plane_by(channel, ratio.number())
+    }
+
+    /// The same by the ratio's number.
+    pub(crate) const fn plane_by(self, channel: Channel, ratio: usize) -> Self {
+        match channel {
+            Channel::Luma => self,
+            Channel::Chroma1 | Channel::Chroma2 => {
+                Self::new(self.width / ratio, self.height / ratio)
+            }
+        }
+    }
+
     /// The number of bytes of a cover: one for each 8 by 8 cell, begun ones included.
     #[must_use]
     pub const fn cells(self) -> usize {
         self.width.div_ceil(8) * self.height.div_ceil(8)
     }
+
+    /// Whether the ratio divides both sides.
+    pub(crate) fn divided_by(self, ratio: usize) -> bool {
+        self.width % ratio == 0 && self.height % ratio == 0
+    }
+
+    /// The pixels of a plane of this size, once it is known to be inside the limits: buffers can be made for it.
+    pub(crate) fn pixels(self, call: &'static str) -> Result<usize, Error> {
+        let inside = |side| (1..=4096).contains(&side);
+        if inside(self.width) && inside(self.height) {
+            Ok(self.width * self.height)
+        } else {
+            Err(Error::of(call, Refusal::Size, |search| search.size(self)))
+        }
+    }
+
+    /// The pixels of luma and of a chroma plane, where this is luma's size.
+    pub(crate) fn pixels_of(
+        self,
+        ratio: Ratio,
+        call: &'static str,
+    ) -> Result<(usize, usize), Error> {
+        let (pixels, each) = (self.pixels(call)?, ratio.number());
+        if self.divided_by(each) {
+            Ok((pixels, pixels / (each * each)))
+        } else {
+            Err(Error::of(call, Refusal::Ratio, |search| {
+                search.ratio(each, self)
+            }))
+        }
+    }
+}
+
+/// Luma pixels per chroma pixel, each way. It has to divide both sides of luma.
+#[derive(Clone, Copy, Debug, PartialEq, Eq, Hash)]
+pub enum Ratio {
+    /// All planes have one size (4:4:4).
+    One = 1,
+    /// Chroma has half the width and half the height (4:2:0).
+    Two = 2,
+    /// Chroma has a quarter of each (4:1:0).
+    Four = 4,
+}
+
+impl Ratio {
+    /// 1, 2 or 4.
+    #[must_use]
+    pub const fn number(self) -> usize {
+        self as usize
+    }
+}
+
+impl TryFrom<usize> for Ratio {
+    type Error = Error;
+
+    /// ```
+    /// use safeteal::{Ratio, Refusal};
+    ///
+    /// assert_eq!(Ratio::try_from(2), Ok(Ratio::Two));
+    /// assert_eq!(Ratio::try_from(3).unwrap_err().refusal(), Refusal::Ratio);
+    /// ```
+    fn try_from(number: usize) -> Result<Self, Error> {
+        match number {
+            1 => Ok(Ratio::One),
+            2 => Ok(Ratio::Two),
+            4 => Ok(Ratio::Four),
+            _ => Err(Error::of("Ratio::try_from", Refusal::Ratio, |search| {
+                search
+            })),
+        }
+    }
 }
 
 /// One of a frame's three planes.
-#[derive(Clone, Copy, Debug, PartialEq, Eq)]
+#[derive(Clone, Copy, Debug, PartialEq, Eq, Hash)]
 pub enum Channel {
     /// Plane 0.
     Luma = 0,
@@ -33,6 +132,9 @@ pub enum Channel {
 }
 
 impl Channel {
+    /// The three in order.
+    pub const ALL: [Channel; 3] = [Channel::Luma, Channel::Chroma1, Channel::Chroma2];
+
     /// The plane's number, 0 to 2.
     #[must_use]
     pub const fn number(self) -> usize {
@@ -56,6 +158,164 @@ pub struct PlaneMut<'a> {
     pub data: &'a mut [u8],
     /// Bytes from one row's start to the next.
     pub pitch: usize,
+}
+
+/// A byte plane with a buffer of its own, without padding.
+///
+/// ```
+/// use safeteal::{PlaneBuf, Refusal, Size};
+///
+/// let plane = PlaneBuf::from_bytes(Size::new(3, 2), vec![1, 2, 3, 4, 5, 6])?;
+/// assert_eq!(plane.row(1), [4, 5, 6]);
+/// assert_eq!(plane.plane().pitch, 3);
+/// let error = PlaneBuf::from_bytes(Size::new(3, 2), vec![0; 5]).unwrap_err();
+/// assert_eq!(error.refusal(), Refusal::Length);
+/// # Ok::<(), safeteal::Error>(())
+/// ```
+#[derive(Clone, Debug, PartialEq, Eq)]
+pub struct PlaneBuf {
+    data: Vec<u8>,
+    size: Size,
+}
+
+impl PlaneBuf {
+    /// A plane of that byte everywhere.
+    ///
+    /// # Errors
+    /// `Refusal::Size`.
+    pub fn new(size: Size, byte: u8) -> Result<Self, Error> {
+        let data = vec![byte; size.pixels("PlaneBuf::new")?];
+        Ok(Self { data, size })
+    }
+
+    /// A plane of these bytes, row after row.
+    ///
+    /// # Errors
+    /// `Refusal::Size`, `Refusal::Length` where there is not exactly one byte for each pixel.
+    pub fn from_bytes(size: Size, data: Vec<u8>) -> Result<Self, Error> {
+        let call = "PlaneBuf::from_bytes";
+        let pixels = size.pixels(call)?;
+        if data.len() == pixels {
+            Ok(Self { data, size })
+        } else {
+            Err(Error::of(call, Refusal::Length, |search| {
+                search.exactly("data", data.len(), || pixels)
+            }))
+        }
+    }
+
+    /// The plane to read.
+    #[must_use]
+    pub fn plane(&self) -> Plane<'_> {
+        Plane {
+            data: &self.data,
+            pitch: self.size.width,
+        }
+    }
+
+    /// The plane to write.
+    #[must_use]
+    pub fn plane_mut(&mut self) -> PlaneMut<'_> {
+        PlaneMut {
+            data: &mut self.data,
+            pitch: self.size.width,
+        }
+    }
+
+    /// Width and height.
+    #[must_use]
+    pub fn size(&self) -> Size {
+        self.size
+    }
+
+    /// All bytes, row after row.
+    #[must_use]
+    pub fn bytes(&self) -> &[u8] {
+        &self.data
+    }
+
+    /// All bytes to write, row after row.
+    #[must_use]
+    pub fn bytes_mut(&mut self) -> &mut [u8] {
+        &mut self.data
+    }
+
+    /// One row.
+    ///
+    /// # Panics
+    /// Where there is no such row.
+    #[must_use]
+    pub fn row(&self, y: usize) -> &[u8] {
+        &self.data[y * self.size.width..][..self.size.width]
+    }
+}
+
+/// A frame: three planes with buffers of their own, taken by their [`Channel`].
+///
+/// ```
+/// use safeteal::{Channel, Frame, Ratio, Size};
+///
+/// let mut frame = Frame::new(Size::new(8, 4), Ratio::Two, [16, 128, 128])?;
+/// assert_eq!(frame[Channel::Chroma1].size(), Size::new(4, 2));
+/// frame[Channel::Luma].bytes_mut().fill(235);
+/// assert_eq!(frame.planes()[0].data, [235; 32]);
+/// let error = Frame::new(Size::new(5, 4), Ratio::Two, [0; 3]).unwrap_err();
+/// assert_eq!(error.to_string(), "Frame::new refused (2): ratio 2 does not divide 5 by 4");
+/// # Ok::<(), safeteal::Error>(())
+/// ```
+#[derive(Clone, Debug, PartialEq, Eq)]
+pub struct Frame {
+    planes: [PlaneBuf; 3],
+    ratio: Ratio,
+}
+
+impl Frame {
+    /// A frame of one colour: a byte for each plane.
+    ///
+    /// # Errors
+    /// `Refusal::Size`, `Refusal::Ratio`.
+    pub fn new(size: Size, ratio: Ratio, colour: [u8; 3]) -> Result<Self, Error> {
+        size.pixels_of(ratio, "Frame::new")?;
+        let plane =
+            |channel: Channel| PlaneBuf::new(size.plane(channel, ratio), colour[channel.number()]);
+        let [luma, chroma1, chroma2] = Channel::ALL.map(plane);
+        Ok(Self {
+            planes: [luma?, chroma1?, chroma2?],
+            ratio,
+        })
+    }
+
+    /// The three planes to read.
+    #[must_use]
+    pub fn planes(&self) -> [Plane<'_>; 3] {
+        self.planes.each_ref().map(PlaneBuf::plane)
+    }
+
+    /// The size of luma.
+    #[must_use]
+    pub fn size(&self) -> Size {
+        self.planes[0].size
+    }
+
+    /// Luma pixels per chroma pixel, each way.
+    #[must_use]
+    pub fn ratio(&self) -> Ratio {
+        self.ratio
+    }
+}
+
+impl Index<Channel> for Frame {
+    type Output = PlaneBuf;
+
+    fn index(&self, channel: Channel) -> &PlaneBuf {
+        &self.planes[channel.number()]
+    }
+}
+
+impl IndexMut<Channel> for Frame {
+    fn index_mut(&mut self, channel: Channel) -> &mut PlaneBuf {
+        &mut self.planes[channel.number()]
+    }
 }
 
 /// A mask over a plane, 1 to 8 times as wide and as high, without padding.

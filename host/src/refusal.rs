@@ -1,17 +1,14 @@
 use std::fmt;
 
-/// Why a call was refused. A refused call has changed none of the slices lent to it (the work slices of `fit` after
-/// `ChromaTotal` excepted).
-///
-/// Where several reasons hold, the one with the lowest number is given.
+/// Why a call was refused, as an [`Error`](crate::Error) says it. Where several reasons hold, the one with the lowest number
+/// is given.
 ///
 /// ```
 /// use safeteal::{distances, Refusal};
 ///
-/// let refusal = distances(&mut [0, 255], 0).unwrap_err();
-/// assert_eq!(refusal, Refusal::Size);
-/// assert_eq!(refusal.number(), 1);
-/// println!("{refusal}");
+/// let error = distances(&mut [0, 255], 0).unwrap_err();
+/// assert_eq!(error.refusal(), Refusal::Size);
+/// assert_eq!(error.refusal().number(), 1);
 /// ```
 #[derive(Clone, Copy, Debug, PartialEq, Eq, Hash)]
 #[non_exhaustive]
@@ -107,8 +104,6 @@ impl fmt::Display for Refusal {
         })
     }
 }
-
-impl std::error::Error for Refusal {}
 
 #[cfg(test)]
 mod tests {

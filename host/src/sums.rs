@@ -1,5 +1,4 @@
-use crate::layer::measured;
-use crate::{Refusal, Size};
+use crate::{Error, Ratio, Size};
 
 /// The sums of up to twelve pairs, to read: six numbers for each luma pixel, two for each pixel of a chroma plane.
 #[derive(Clone, Copy, Debug)]
@@ -28,20 +27,19 @@ pub struct Sums {
     pub(crate) chroma: [Vec<f32>; 2],
     pub(crate) pairs: usize,
     pub(crate) size: Size,
-    pub(crate) ratio: usize,
+    pub(crate) ratio: Ratio,
 }
 
 impl Sums {
     /// Sums of no pair yet.
     ///
     /// # Errors
-    /// [`Refusal::Size`] and [`Refusal::Ratio`], as in every call.
-    pub fn new(size: Size, ratio: usize) -> Result<Self, Refusal> {
-        let pixels = measured(size, ratio)?;
-        let plane = vec![0.0; 2 * (pixels / (ratio * ratio))];
+    /// `Refusal::Size` and `Refusal::Ratio`, as in every call.
+    pub fn new(size: Size, ratio: Ratio) -> Result<Self, Error> {
+        let (luma, chroma) = size.pixels_of(ratio, "Sums::new")?;
         Ok(Self {
-            luma: vec![0.0; 6 * pixels],
-            chroma: [plane.clone(), plane],
+            luma: vec![0.0; 6 * luma],
+            chroma: [vec![0.0; 2 * chroma], vec![0.0; 2 * chroma]],
             pairs: 0,
             size,
             ratio,
@@ -72,7 +70,7 @@ impl Sums {
 
     /// Luma pixels per chroma pixel, each way.
     #[must_use]
-    pub fn ratio(&self) -> usize {
+    pub fn ratio(&self) -> Ratio {
         self.ratio
     }
 }

@@ -1,10 +1,9 @@
 // Apply: two frames mixed where a mask says that the picture is still.
 use rules::Answer;
 ghost use mathlib.Core.Path.{_≡_};
-ghost use mathlib.Core.Bool.{cond};
+ghost use mathlib.Core.Bool.{true, _&&_, cond};
 ghost use Prim.Native.Nat.{_*_, _≤_};
-ghost use lib.Dec.{ltb};
-ghost use Rattle.rules.specs.Domain.{isTime};
+ghost use lib.Dec.{ltb, eqb};
 ghost use Rattle.rules.specs.Refusals.{applyRefusal};
 ghost use Rattle.rules.specs.Still.{applyLeaves};
 ghost use Rattle.cells.specs.Cells.{PixelCells, RowCells, PlaneCells};
@@ -136,7 +135,44 @@ fn apply_rows(
     }
 }
 
-// The same, with the commonest steps as constants: their loops are compiled apart.
+// The same, with steps that are given a second time, as constants.
+fn apply_fixed(
+    output: &mut [u8],
+    output_pitch: usize,
+    first: &[u8],
+    second: &[u8],
+    pitch: usize,
+    width: usize,
+    height: usize,
+    still: &[u8],
+    still_width: usize,
+    across: usize,
+    down: usize,
+    time: f32,
+    a: usize,
+    d: usize,
+)
+    requires { ⌜ PlaneIn (now output) «output_pitch» (width, height) × PlaneIn (now first) pitch (width, height) × PlaneIn (now second) pitch (width, height) × PlaneCells (now still) «still_width» across down (width, height) × ((eqb across a && eqb down d) ≡ true) ⌝ }
+    ensures { λ _. ⌜ RowsPainted (ruleBy (framesOf (now (first .entry)) (now (second .entry)) pitch time) (now (still .entry)) «still_width» across down) «output_pitch» width height (now (output .entry)) (now (output .exit)) ⌝ }
+{
+    apply_rows(
+        output,
+        output_pitch,
+        first,
+        second,
+        pitch,
+        width,
+        height,
+        still,
+        still_width,
+        a,
+        d,
+        time,
+        false,
+    );
+}
+
+// The same, with the smallest steps as constants: their loops are compiled apart.
 fn apply_steps(
     output: &mut [u8],
     output_pitch: usize,
@@ -155,7 +191,7 @@ fn apply_steps(
     ensures { λ _. ⌜ RowsPainted (ruleBy (framesOf (now (first .entry)) (now (second .entry)) pitch time) (now (still .entry)) «still_width» across down) «output_pitch» width height (now (output .entry)) (now (output .exit)) ⌝ }
 {
     if plane::both(across == 1, down == 1) {
-        apply_rows(
+        apply_fixed(
             output,
             output_pitch,
             first,
@@ -165,15 +201,73 @@ fn apply_steps(
             height,
             still,
             still_width,
-            1,
-            1,
+            across,
+            down,
             time,
-            false,
+            1,
+            1,
+        );
+        return;
+    }
+    if plane::both(across == 2, down == 1) {
+        apply_fixed(
+            output,
+            output_pitch,
+            first,
+            second,
+            pitch,
+            width,
+            height,
+            still,
+            still_width,
+            across,
+            down,
+            time,
+            2,
+            1,
+        );
+        return;
+    }
+    if plane::both(across == 3, down == 1) {
+        apply_fixed(
+            output,
+            output_pitch,
+            first,
+            second,
+            pitch,
+            width,
+            height,
+            still,
+            still_width,
+            across,
+            down,
+            time,
+            3,
+            1,
+        );
+        return;
+    }
+    if plane::both(across == 1, down == 2) {
+        apply_fixed(
+            output,
+            output_pitch,
+            first,
+            second,
+            pitch,
+            width,
+            height,
+            still,
+            still_width,
+            across,
+            down,
+            time,
+            1,
+            2,
         );
         return;
     }
     if plane::both(across == 2, down == 2) {
-        apply_rows(
+        apply_fixed(
             output,
             output_pitch,
             first,
@@ -183,10 +277,11 @@ fn apply_steps(
             height,
             still,
             still_width,
-            2,
-            2,
+            across,
+            down,
             time,
-            false,
+            2,
+            2,
         );
         return;
     }
@@ -205,13 +300,6 @@ fn apply_steps(
         time,
         true,
     );
-}
-
-// A time from 0 to 1.
-fn timed(time: f32) -> bool
-    ensures { λ r. ⌜ r ≡ isTime time ⌝ }
-{
-    plane::both(0.0 <= time, time <= 1.0)
 }
 
 // The number of apply's refusal, or 0.
@@ -243,7 +331,7 @@ fn apply_refusal(
             plane::both(plane::planed(second.len(), pitch, width, height), true),
         ),
     );
-    let last = plane::unless(4, lengths, plane::unless(6, timed(time), 0));
+    let last = plane::unless(4, lengths, plane::unless(6, plane::timed(time), 0));
     let rest = plane::unless(3, pitches, last);
     plane::unless(1, sizes, plane::unless(2, steps, rest))
 }

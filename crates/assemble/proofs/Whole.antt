@@ -1,15 +1,14 @@
 -- A whole call of assemble: refused, or run. Assumes nothing.
-use mathlib.Core.Path.{_≡_, refl, sym, ap, _∙_}
-use mathlib.Core.Bool.{Bool, true, false, cond, _&&_, not}
+use mathlib.Core.Path.{_≡_, refl, sym, _∙_}
+use mathlib.Core.Bool.{Bool, true, _&&_}
 use mathlib.Core.List.{List}
 use Prim.Native.Nat.{ℕ, _*_, _/_}
-use native.Mathlib.Omega.{arith}
 use borrow.Author.Tests.{eqb-true, ne-eqb}
 use lib.Dec.{eqb}
 use lib.IntN.{ℤ}
 use lib.ListN.{length}
 use lib.Ieee.{Float}
-use Rattle.rules.specs.Forms.{cells, area, uncounted, leaves}
+use Rattle.rules.specs.Forms.{cells, area, leaves}
 use Rattle.rules.specs.Calls.{AssembleCall}
 use Rattle.rules.specs.Domain.{areSizes, isRatio, areModels, isCover, isFit}
 use Rattle.rules.specs.Refusals.{firstFitting, assembleTable}

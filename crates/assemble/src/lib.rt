@@ -3,7 +3,6 @@ use offsets::Grid;
 use rules::Answer;
 ghost use mathlib.Core.Path.{_≡_};
 ghost use mathlib.Core.Bool.{true};
-ghost use Prim.Native.Nat.{_*_, _/_};
 ghost use Rattle.rules.specs.Domain.{areSizes};
 ghost use Rattle.rules.specs.Refusals.{firstFitting, assembleTable};
 ghost use Rattle.offsets.specs.Grid.{Formed, modelsLong};
@@ -45,9 +44,9 @@ fn refusal(
 {
     let first = sizes(width, height);
     let second = plane::ratioed(ratio, width, height);
-    let third = table::exact(models.len(), 4, width, height);
+    let third = plane::exact(models.len(), 4, width, height);
     let fourth = table::exact_cover(cover.len(), width, height);
-    let fifth = table::exact_planes(
+    let fifth = plane::exact_planes(
         luma.len(),
         chroma1.len(),
         chroma2.len(),

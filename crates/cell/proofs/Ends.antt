@@ -1,9 +1,8 @@
 -- Where a cell ends, that a pixel's cell is among the chroma pixels, and the test of a gap. Assumes nothing.
 use mathlib.Core.Path.{_≡_, refl, ap, _∙_}
 use mathlib.Core.Bool.{Bool, true, false, cond}
-use mathlib.Core.Logic.{_↔_}
 use Prim.Native.Nat.{ℕ, _+_, _*_, _/_, _^_, _≤_, _<_}
-use native.Mathlib.Nat.{div-eq-of-lt-le, div-mul-le-self, lt-div-mul-add, le-trans, add-mul, one-mul, suc-mul, mul-comm, mul-le-mul-left, mul-le-mul-right, div-one, div-le-self, div-lt-iff-lt-mul, lt-of-le-of-lt}
+use native.Mathlib.Nat.{div-eq-of-lt-le, div-mul-le-self, lt-div-mul-add, add-mul, one-mul, suc-mul, mul-comm, mul-le-mul-left, mul-le-mul-right, div-one, div-le-self, div-lt-iff-lt-mul, lt-of-le-of-lt}
 use native.Mathlib.Omega.{arith}
 use lib.Dec.{T}
 use lib.IntN.{ℤ, pos}

@@ -7,7 +7,8 @@ use lib.Dec.{leb, eqb}
 use lib.ListN.{length}
 use Rattle.rules.specs.Forms.{Mask}
 use Rattle.rules.specs.Domain.{areSizes, isStep, areSteps}
-use Rattle.pass.proofs.Accepted.{both, sizes-in}
+use Rattle.laws.proofs.Accepted.{both}
+use Rattle.pass.proofs.Accepted.{sizes-in}
 use Rattle.cells.specs.Cells.{PlaneCells}
 
 -- both steps are these

@@ -6,7 +6,9 @@ use native.Mathlib.Nat.{div-add-mod, div-div-eq-div-mul, mul-add, mul-assoc, mul
 use native.Mathlib.Omega.{arith}
 use borrow.Author.Tests.{eqb-true, eq-eqb}
 use lib.Dec.{eqb}
-use Rattle.pass.proofs.Accepted.{both, and-true, tests-same}
+use Rattle.laws.proofs.Accepted.{both}
+use Rattle.plane.proofs.Laws.{tests-same}
+use Rattle.pass.proofs.Accepted.{and-true}
 
 pub exact : (side whole : ℕ) → eqb (whole % side) 0 ≡ eqb (side * (whole / side)) whole
 exact side whole =

@@ -52,14 +52,8 @@ fn byte_row(mask: &[u8], row: usize, mask_width: usize, x: usize, across: usize,
     requires { ⌜ CellRow (now mask) row «mask_width» x across total ⌝ }
     ensures { λ r. ⌜ Summed (rowSum (now (mask .entry)) row «mask_width» x across across total) (total + 255 * across) r ⌝ }
 {
-    let mut n = total;
-    let mut dx = 0;
-    while dx < across {
-        let k = plane::place(row, mask_width, plane::place(x, across, dx));
-        n += mask[k] as u32;
-        dx += 1;
-    }
-    n
+    let first = plane::place(row, mask_width, x * across);
+    run::run(mask, first, across, total)
 }
 
 // "the byte sum" of a pixel, of so many cells across and down.

@@ -1,8 +1,8 @@
 -- The parts of a call as the search takes them, and what it leaves of them. Assumes nothing.
-use mathlib.Core.Path.{_≡_, refl, sym, ap, _∙_}
+use mathlib.Core.Path.{_≡_, ap, _∙_}
 use mathlib.Core.Bool.{Bool}
 use mathlib.Core.List.{List}
-use Prim.Native.Nat.{ℕ, _+_, _*_, _≤_}
+use Prim.Native.Nat.{ℕ, _*_, _≤_}
 use native.Mathlib.Omega.{arith}
 use borrow.Author.Tests.{le-leb}
 use lib.ListN.{length}
@@ -16,10 +16,9 @@ use Rattle.rules.specs.Assembly.{modelSlice}
 use Rattle.distances.specs.Call as Distances
 use Rattle.total.specs.declared.Counts.{Counts}
 use Rattle.total.specs.Around.{Made}
-use Rattle.total.specs.Alike.{Alike}
 use Rattle.window.specs.Lent.{lent}
 use Rattle.offsets.specs.declared.Grid.{Grid}
-use Rattle.keep.specs.Pass.{Sound, Kept}
+use Rattle.keep.specs.Pass.{Kept}
 use Rattle.rough.specs.Search.{Searching, Searched}
 use Rattle.fit.specs.Call.{partOf, partsOf, Beside, Asks, Modelled}
 

@@ -3,12 +3,9 @@
 use offsets::Grid;
 use rules::Answer;
 ghost use mathlib.Core.Path.{_≡_};
-ghost use mathlib.Core.Bool.{true, _&&_, _||_};
+ghost use mathlib.Core.Bool.{true};
 ghost use mathlib.Core.List.{_∷_, []};
-ghost use Prim.Native.Nat.{_*_, _/_, _≤_};
-ghost use lib.Dec.{eqb, leb};
-ghost use lib.ListN.{length};
-ghost use Rattle.rules.specs.Literals.{0·0, 0·5, 255·0, 65536·0};
+ghost use Prim.Native.Nat.{_*_};
 ghost use Rattle.rules.specs.Float.{within as withinOf};
 ghost use Rattle.rules.specs.Domain.{areSums};
 ghost use Rattle.rules.specs.Refusals.{_unless_, firstFitting, isNeighbour, fitTable};
@@ -33,7 +30,7 @@ fn summed(
 ) -> bool
     ensures { λ r. ⌜ r ≡ areSums (partOf (now (luma .entry)) (now (chroma1 .entry)) (now (chroma2 .entry)) 0) (width, height) ratio ⌝ }
 {
-    table::exact_planes(
+    plane::exact_planes(
         luma.len(),
         chroma1.len(),
         chroma2.len(),
@@ -116,10 +113,10 @@ fn refusal(
     let first = neighbour(previous, previous1, previous2, before, width, height, ratio);
     let second = summed(own, own1, own2, width, height, ratio);
     let third = neighbour(next, next1, next2, after, width, height, ratio);
-    let fourth = table::exact(models.len(), 4, width, height);
-    let fifth = table::exact_pixels(kept.len(), width, height);
+    let fourth = plane::exact(models.len(), 4, width, height);
+    let fifth = plane::is_product(kept.len(), width, height);
     let sixth = table::exact_cover(cover.len(), width, height);
-    let seventh = table::exact_planes(
+    let seventh = plane::exact_planes(
         luma.len(),
         chroma1.len(),
         chroma2.len(),

@@ -3,8 +3,9 @@
 use mathlib.Core.Path.{_≡_, sym, ap, _∙_}
 use mathlib.Core.List.{List}
 use Prim.Native.Nat.{ℕ, zero, suc, _+_, _*_, _/_, _%_, _≤_, _<_}
-use native.Mathlib.Nat.{add-zero, add-suc, add-assoc, mul-zero, zero-mul, mul-suc, suc-mul, mul-comm, mul-add, mul-add-div, mul-add-div-right, mul-add-mod-self-left, mul-add-mod-self-right, div-eq-of-lt, mod-eq-of-lt}
+use native.Mathlib.Nat.{add-zero, add-suc, add-assoc, mul-zero, zero-mul, mul-suc, suc-mul, mul-comm, mul-add}
 use native.Mathlib.Omega.{arith}
+use lib.Arith.{digits-div, digits-mod}
 use lib.ListN.{length, getD}
 use lib.Ieee.{Float, nan}
 use Rattle.rules.specs.Forms.{turns, area}
@@ -16,19 +17,7 @@ use Rattle.gather.specs.Sums.{startOf, oneAdded, termsAdded, Pass, rowAd
 
 -- entry j of `many` that belong to p
 entry-of : (many p j : ℕ) → j < many → ((many * p + j) / many ≡ p) × ((many * p + j) % many ≡ j)
-entry-of many p j h =
-    let some : 0 < many = omega arith in (
-      rw (mul-add-div some p j, div-eq-of-lt h, add-zero p),
-      rw (mul-add-mod-self-left many p j, mod-eq-of-lt h),
-    )
-
--- pixel x of row y
-pixel-of : (width x y : ℕ) → x < width → ((y * width + x) % width ≡ x) × ((y * width + x) / width ≡ y)
-pixel-of width x y h =
-    let some : 0 < width = omega arith in (
-      rw (mul-add-mod-self-right y width x, mod-eq-of-lt h),
-      rw (mul-add-div-right some y x, div-eq-of-lt h, add-zero y),
-    )
+entry-of many p j h = rw (mul-comm many p) (digits-div p h, digits-mod p h)
 
 module _ (pairs many : ℕ) (f : Pass) (old : List Float) where
   abbrev width : ℕ
@@ -59,8 +48,7 @@ module _ (pairs many : ℕ) (f : Pass) (old : List Float) where
   term : (x y j : ℕ) → x < width → j < many → getD (termsOf x y) j nan ≡ getD (termsOf ((many * (y * width + x) + j) / many % width) ((many * (y * width + x) + j) / many / width)) ((many * (y * width + x) + j) % many) nan
   term x y j h l =
       let e = entry-of many (y * width + x) j l in
-      let p = pixel-of width x y h in
-      rw (e .0, e .1, p .0, p .1)
+      rw (e .0, e .1, digits-mod y h, digits-div y h)
 
   -- the first n pixels of row y
   row : (y : ℕ) (l : List Float) → l ≡ filled (many * (y * width)) entry old → (n : ℕ) → n ≤ width

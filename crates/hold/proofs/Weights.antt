@@ -1,5 +1,5 @@
 -- Bytes weighed by a mask: the sums fit, and a full sum keeps the byte that was made. Assumes nothing.
-use mathlib.Core.Path.{_≡_, sym}
+use mathlib.Core.Path.{_≡_, refl, sym, _∙_}
 use mathlib.Core.Logic.{⊎-elim}
 use mathlib.Core.Bool.{cond}
 use Prim.Native.Nat.{ℕ, _+_, _-_, _*_, _/_, _≤_, _<_}
@@ -42,9 +42,13 @@ whole kept made full some =
     let half : full / 2 < full = omega arith in
     rw (z, ← n, mul-add-div-right p made (full / 2), div-eq-of-lt half) (omega arith)
 
+-- a pixel of full sum stays
+pub stays : (made new sum full : ℕ) → sum ≡ full → made ≡ cond (ltb sum full) new made
+stays made new sum full e = rw (e, le-ltb full full (omega arith))
+
 -- every pixel may be weighed
 pub always : (kept made sum full : ℕ) → sum ≤ full → 1 ≤ full → weighed kept made sum full ≡ cond (ltb sum full) (weighed kept made sum full) made
 always kept made sum full low some = ⊎-elim
-    (λ e. rw (e, le-ltb full full (omega arith)) (whole kept made full some))
+    (λ e. rw e (whole kept made full some ∙ stays made _ full full refl))
     (λ l. sym (simp (lt-ltb sum full l)))
     (eq-or-lt-of-le low)

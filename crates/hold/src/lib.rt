@@ -1,7 +1,9 @@
 // Hold: a plane's bytes weighed with the bytes that are kept, by a mask.
 use rules::Answer;
 ghost use mathlib.Core.Path.{_≡_};
+ghost use mathlib.Core.Bool.{true, _&&_};
 ghost use Prim.Native.Nat.{_≤_};
+ghost use lib.Dec.{eqb};
 ghost use Rattle.rules.specs.Refusals.{holdRefusal};
 ghost use Rattle.rules.specs.Still.{weighed as weighedOf, holdLeaves};
 ghost use Rattle.cells.specs.Cells.{PixelCells, RowCells, PlaneCells};
@@ -17,7 +19,8 @@ fn weighed(kept: u8, made: u8, sum: u32, full: u32) -> u8
     ((mixed + full / 2) / full) as u8
 }
 
-// What pixel (x, y) becomes. A pixel of full sum stays as it was made, so that each is weighed.
+// What pixel (x, y) becomes. One of full sum stays as it was made: it is passed over before it is
+// weighed, or, where `skip` is false, weighed like the others: a row is then a loop without a branch.
 fn hold_dot(
     made: u8,
     held: &[u8],
@@ -26,15 +29,19 @@ fn hold_dot(
     mask_width: usize,
     across: usize,
     down: usize,
+    skip: bool,
     x: usize,
     y: usize,
 ) -> u8
     requires { ⌜ PixelIn (now held) «held_pitch» x y × PixelCells (now mask) «mask_width» across down x y ⌝ }
     ensures { λ r. ⌜ r ≡ put (ruleBy (planeOf (now (held .entry)) «held_pitch») (now (mask .entry)) «mask_width» across down) x y made ⌝ }
 {
-    let kept = held[plane::place(y, held_pitch, x)];
     let sum = cells::byte_sum(mask, mask_width, across, down, x, y);
     let full = 255 * cells::cell_count(across, down);
+    if plane::both(skip, sum == full) {
+        return made;
+    }
+    let kept = held[plane::place(y, held_pitch, x)];
     weighed(kept, made, sum, full)
 }
 
@@ -49,6 +56,7 @@ fn hold_row(
     mask_width: usize,
     across: usize,
     down: usize,
+    skip: bool,
     y: usize,
 )
     requires { ⌜ RowIn (now output) «output_pitch» width y × RowIn (now held) «held_pitch» width y × RowCells (now mask) «mask_width» across down width y ⌝ }
@@ -65,6 +73,7 @@ fn hold_row(
             mask_width,
             across,
             down,
+            skip,
             x,
             y,
         );
@@ -84,6 +93,7 @@ fn hold_rows(
     mask_width: usize,
     across: usize,
     down: usize,
+    skip: bool,
 )
     requires { ⌜ PlaneIn (now output) «output_pitch» (width, height) × PlaneIn (now held) «held_pitch» (width, height) × PlaneCells (now mask) «mask_width» across down (width, height) ⌝ }
     ensures { λ _. ⌜ RowsPainted (ruleBy (planeOf (now (held .entry)) «held_pitch») (now (mask .entry)) «mask_width» across down) «output_pitch» width height (now (output .entry)) (now (output .exit)) ⌝ }
@@ -100,13 +110,47 @@ fn hold_rows(
             mask_width,
             across,
             down,
+            skip,
             y,
         );
         y += 1;
     }
 }
 
-// The same, with the commonest steps as constants: their loops are compiled apart, with no division left.
+// The same, with steps that are given a second time, as constants.
+fn hold_fixed(
+    output: &mut [u8],
+    output_pitch: usize,
+    held: &[u8],
+    held_pitch: usize,
+    width: usize,
+    height: usize,
+    mask: &[u8],
+    mask_width: usize,
+    across: usize,
+    down: usize,
+    a: usize,
+    d: usize,
+)
+    requires { ⌜ PlaneIn (now output) «output_pitch» (width, height) × PlaneIn (now held) «held_pitch» (width, height) × PlaneCells (now mask) «mask_width» across down (width, height) × ((eqb across a && eqb down d) ≡ true) ⌝ }
+    ensures { λ _. ⌜ RowsPainted (ruleBy (planeOf (now (held .entry)) «held_pitch») (now (mask .entry)) «mask_width» across down) «output_pitch» width height (now (output .entry)) (now (output .exit)) ⌝ }
+{
+    hold_rows(
+        output,
+        output_pitch,
+        held,
+        held_pitch,
+        width,
+        height,
+        mask,
+        mask_width,
+        a,
+        d,
+        false,
+    );
+}
+
+// The same, with the smallest steps as constants: their loops are compiled apart, with no division left.
 fn hold_steps(
     output: &mut [u8],
     output_pitch: usize,
@@ -123,7 +167,7 @@ fn hold_steps(
     ensures { λ _. ⌜ RowsPainted (ruleBy (planeOf (now (held .entry)) «held_pitch») (now (mask .entry)) «mask_width» across down) «output_pitch» width height (now (output .entry)) (now (output .exit)) ⌝ }
 {
     if plane::both(across == 1, down == 1) {
-        hold_rows(
+        hold_fixed(
             output,
             output_pitch,
             held,
@@ -132,13 +176,15 @@ fn hold_steps(
             height,
             mask,
             mask_width,
+            across,
+            down,
             1,
             1,
         );
         return;
     }
-    if plane::both(across == 2, down == 2) {
-        hold_rows(
+    if plane::both(across == 2, down == 1) {
+        hold_fixed(
             output,
             output_pitch,
             held,
@@ -147,6 +193,59 @@ fn hold_steps(
             height,
             mask,
             mask_width,
+            across,
+            down,
+            2,
+            1,
+        );
+        return;
+    }
+    if plane::both(across == 3, down == 1) {
+        hold_fixed(
+            output,
+            output_pitch,
+            held,
+            held_pitch,
+            width,
+            height,
+            mask,
+            mask_width,
+            across,
+            down,
+            3,
+            1,
+        );
+        return;
+    }
+    if plane::both(across == 1, down == 2) {
+        hold_fixed(
+            output,
+            output_pitch,
+            held,
+            held_pitch,
+            width,
+            height,
+            mask,
+            mask_width,
+            across,
+            down,
+            1,
+            2,
+        );
+        return;
+    }
+    if plane::both(across == 2, down == 2) {
+        hold_fixed(
+            output,
+            output_pitch,
+            held,
+            held_pitch,
+            width,
+            height,
+            mask,
+            mask_width,
+            across,
+            down,
             2,
             2,
         );
@@ -163,6 +262,7 @@ fn hold_steps(
         mask_width,
         across,
         down,
+        true,
     );
 }
 

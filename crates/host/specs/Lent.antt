@@ -3,7 +3,7 @@ use mathlib.Core.List.{List}
 use Prim.Native.Nat.{ℕ}
 use lib.IntN.{ℤ}
 use lib.Ieee.{Float}
-use Rattle.rules.specs.Forms.{Plane, Motion, Pair, Part, Fit, Layer, Frames, Mask}
+use Rattle.rules.specs.Forms.{Plane, Motion, Pair, Part, Parts, Fit, Layer, Frames, Mask}
 
 -- bytes and their pitch
 abbrev pub plane : List ℕ → (pitch : ℕ) → Plane
@@ -42,6 +42,10 @@ pairOf first0 first1 first2 second0 second1 second2 motion =
 -- the three slices of a part, and its pairs
 abbrev pub part : (luma chroma1 chroma2 : List Float) → (pairs : ℕ) → Part
 part luma chroma1 chroma2 pairs = record { luma = luma; chroma = (chroma1, chroma2); pairs = pairs }
+
+-- the own part between its neighbours
+abbrev pub parts : (previous own next : Part) → Parts
+parts previous own next = record { previous = previous; own = own; next = next }
 
 -- the three slices that fit and assemble fill
 abbrev pub stored : (luma chroma1 chroma2 : List ℤ) → Fit

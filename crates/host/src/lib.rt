@@ -2,21 +2,25 @@
 // number, and every element of every slice that the call may write.
 use lent::Shape;
 use rules::Answer;
+use rules::Reply;
 ghost use mathlib.Core.Path.{_≡_};
 ghost use Prim.Native.Nat.{_≤_};
 ghost use Rattle.rules.specs.Forms.{uncounted};
-ghost use Rattle.rules.specs.Calls.{PeelCall, UnpeelCall, StatsCall, AssembleCall, DistancesCall, MaskCall, ApplyCall, HoldCall};
+ghost use Rattle.rules.specs.Calls.{PeelCall, UnpeelCall, RenderCall, StatsCall, FitCall, AssembleCall, DistancesCall, MaskCall, ApplyCall, HoldCall};
 ghost use Rattle.rules.specs.Refusals.{statsRefusal, distancesRefusal, maskRefusal, applyRefusal, holdRefusal};
 ghost use Rattle.rules.specs.Float.{pixel as pixelOf, cut as cutOf, stored as storedOf};
 ghost use Rattle.rules.specs.Distances.{distancesLeaves};
+ghost use Rattle.rules.specs.Reading.{emptyAnswer};
 ghost use Rattle.rules.specs.Assembly.{assembleRefusal, assembleLeaves};
+ghost use Rattle.rules.specs.Fit.{fitRefusal, fitLeaves};
 ghost use Rattle.rules.specs.Peel.{peelAnswer, peelLeaves};
 ghost use Rattle.rules.specs.Unpeel.{unpeelAnswer, unpeelLeaves};
+ghost use Rattle.rules.specs.Render.{renderAnswer, renderLeaves};
 ghost use Rattle.rules.specs.Stats.{statsLeaves};
 ghost use Rattle.rules.specs.Still.{maskLeaves, applyLeaves, holdLeaves};
-ghost use Rattle.rules.specs.Host.{word as wordOf, numbers};
-ghost use Rattle.host.specs.Lent.{layer as layerOf, plane as planeOf, mask as maskOf, frames as framesOf, motion as motionOf, part as partOf, pairOf, stored as fitOf};
-ghost use Rattle.host.specs.Told.{Told, ToldThree};
+ghost use Rattle.rules.specs.Host.{word as wordOf, numbers, replyWord};
+ghost use Rattle.host.specs.Lent.{layer as layerOf, plane as planeOf, mask as maskOf, frames as framesOf, motion as motionOf, part as partOf, parts as partsOf, pairOf, stored as fitOf};
+ghost use Rattle.host.specs.Told.{Told, ToldThree, WorkStays};
 
 // An answer without a count.
 fn number(a: Answer) -> u64
@@ -198,6 +202,65 @@ pub extern "C" fn safeteal_assemble(
     number(assemble::assemble(luma, chroma1, chroma2, width, height, ratio, models, cover))
 }
 
+// `before`, `pairs` and `after` are the pairs of the previous, own and next part. What the work slices (models, kept, cover) hold after acceptance and
+// after 8 is left free: alone of all slices here.
+#[no_mangle]
+pub extern "C" fn safeteal_fit(
+    previous: &[f32],
+    previous1: &[f32],
+    previous2: &[f32],
+    before: usize,
+    own: &[f32],
+    own1: &[f32],
+    own2: &[f32],
+    pairs: usize,
+    next: &[f32],
+    next1: &[f32],
+    next2: &[f32],
+    after: usize,
+    width: usize,
+    height: usize,
+    limit: f32,
+    evidence: f32,
+    strict: bool,
+    ratio: usize,
+    models: &mut [f32],
+    kept: &mut [u8],
+    cover: &mut [u8],
+    luma: &mut [i16],
+    chroma1: &mut [i16],
+    chroma2: &mut [i16],
+) -> u64
+    ensures { λ r. ⌜ (let c : FitCall = record { parts = partsOf (partOf (now (previous .entry)) (now (previous1 .entry)) (now (previous2 .entry)) before) (partOf (now (own .entry)) (now (own1 .entry)) (now (own2 .entry)) pairs) (partOf (now (next .entry)) (now (next1 .entry)) (now (next2 .entry)) after); size = (width, height); limit = limit; evidence = evidence; strict = strict; ratio = ratio; models = now (models .entry); kept = now (kept .entry); cover = now (cover .entry); output = fitOf (now (luma .entry)) (now (chroma1 .entry)) (now (chroma2 .entry)) } in ToldThree (uncounted (fitRefusal c)) (fitLeaves c .luma) (fitLeaves c .chroma) (now (luma .exit)) (now (chroma1 .exit)) (now (chroma2 .exit)) r × WorkStays c (now (models .exit)) (now (kept .exit)) (now (cover .exit))) ⌝ }
+{
+    number(fit::fit(
+        models,
+        kept,
+        cover,
+        luma,
+        chroma1,
+        chroma2,
+        previous,
+        previous1,
+        previous2,
+        before,
+        own,
+        own1,
+        own2,
+        pairs,
+        next,
+        next1,
+        next2,
+        after,
+        width,
+        height,
+        limit,
+        evidence,
+        strict,
+        ratio,
+    ))
+}
+
 // An answer as one number.
 fn word(a: Answer) -> u64
     requires { ⌜ a .count ≤ 16777216 ⌝ }
@@ -234,7 +297,7 @@ pub extern "C" fn safeteal_peel(
         ratio,
         plane,
     };
-    word(peel::peel(
+    word(view::peel_of(
         output,
         output_pitch,
         s,
@@ -280,7 +343,7 @@ pub extern "C" fn safeteal_unpeel(
         ratio,
         plane,
     };
-    word(peel::unpeel(
+    word(view::unpeel_of(
         output,
         output_pitch,
         s,
@@ -325,7 +388,7 @@ pub extern "C" fn safeteal_peel_numbers(
         ratio,
         plane,
     };
-    word(peel::peel(
+    word(view::peel_of(
         output,
         output_pitch,
         s,
@@ -370,7 +433,7 @@ pub extern "C" fn safeteal_unpeel_numbers(
         ratio,
         plane,
     };
-    word(peel::unpeel(
+    word(view::unpeel_of(
         output,
         output_pitch,
         s,
@@ -385,6 +448,104 @@ pub extern "C" fn safeteal_unpeel_numbers(
         second,
         second_pitch,
         time,
+    ))
+}
+
+// A yes or no as one number: the yes stands in the count's place.
+fn reply(a: Reply) -> u64
+    ensures { λ r. ⌜ r ≡ replyWord a ⌝ }
+{
+    let n = number(a.answer);
+    if a.yes { 256 + n } else { n }
+}
+
+#[no_mangle]
+pub extern "C" fn safeteal_empty(
+    luma: &[i16],
+    chroma1: &[i16],
+    chroma2: &[i16],
+    luma_pitch: usize,
+    chroma_pitch: usize,
+    width: usize,
+    height: usize,
+    ratio: usize,
+) -> u64
+    ensures { λ r. ⌜ r ≡ replyWord (emptyAnswer (layerOf (now (luma .entry)) (now (chroma1 .entry)) (now (chroma2 .entry)) «luma_pitch» «chroma_pitch» width height ratio)) ⌝ }
+{
+    reply(empty::empty(
+        luma,
+        chroma1,
+        chroma2,
+        luma_pitch,
+        chroma_pitch,
+        width,
+        height,
+        ratio,
+    ))
+}
+
+#[no_mangle]
+pub extern "C" fn safeteal_render(
+    luma: &[i16],
+    chroma1: &[i16],
+    chroma2: &[i16],
+    luma_pitch: usize,
+    chroma_pitch: usize,
+    width: usize,
+    height: usize,
+    ratio: usize,
+    plane: usize,
+    output: &mut [u8],
+    output_pitch: usize,
+    first: &[u8],
+    first_pitch: usize,
+    second: &[u8],
+    second_pitch: usize,
+    time: f32,
+    forward_x: &[u16],
+    forward_y: &[u16],
+    backward_x: &[u16],
+    backward_y: &[u16],
+    grid_width: usize,
+    grid_height: usize,
+    block_width: i32,
+    block_height: i32,
+    origin_x: i32,
+    origin_y: i32,
+    pel: i32,
+    algo: i32,
+) -> u64
+    ensures { λ r. ⌜ (let c : RenderCall = record { layer = layerOf (now (luma .entry)) (now (chroma1 .entry)) (now (chroma2 .entry)) «luma_pitch» «chroma_pitch» width height ratio; plane = plane; output = planeOf (now (output .entry)) «output_pitch»; frames = framesOf (planeOf (now (first .entry)) «first_pitch») (planeOf (now (second .entry)) «second_pitch») time; motion = motionOf (now («forward_x» .entry)) (now («forward_y» .entry)) (now («backward_x» .entry)) (now («backward_y» .entry)) «grid_width» «grid_height» «block_width» «block_height» «origin_x» «origin_y» pel; algo = algo } in Told (renderAnswer c) (renderLeaves c) (now (output .exit)) r) ⌝ }
+{
+    word(render::render(
+        output,
+        output_pitch,
+        luma,
+        chroma1,
+        chroma2,
+        luma_pitch,
+        chroma_pitch,
+        width,
+        height,
+        ratio,
+        plane,
+        first,
+        first_pitch,
+        second,
+        second_pitch,
+        time,
+        forward_x,
+        forward_y,
+        backward_x,
+        backward_y,
+        grid_width,
+        grid_height,
+        block_width,
+        block_height,
+        origin_x,
+        origin_y,
+        pel,
+        algo,
     ))
 }
 

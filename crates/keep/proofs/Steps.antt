@@ -5,12 +5,12 @@ use Prim.Native.Nat.{ℕ, _+_, _*_, _/_, _<_}
 use native.Mathlib.Nat.{mul-comm}
 use native.Mathlib.Omega.{arith}
 use borrow.Author.Tests.{eq-eqb, ne-eqb}
+use lib.Arith.{digits-div, digits-lt, digits-mod}
 use lib.ListN.{length, getD}
 use lib.Ieee.{Float}
 use Rattle.rules.specs.Forms.{cells}
 use Rattle.rules.specs.Model.{Fitted}
 use Rattle.rules.specs.Keeping.{cellOf}
-use Rattle.table.proofs.Places.{in-rows, row-of, column-of}
 use Rattle.near.specs.Verdict.{verdictOf}
 use Rattle.keep.specs.Pass.{marked, step, Sound}
 
@@ -28,14 +28,14 @@ step-some rough size at s h = rw (ne-eqb (getD (s .0) at 0) 0 h)
 -- ---- the cell
 
 pub cell-is : (width x y : ℕ) → x < width → cellOf width (y * width + x) ≡ y / 8 * cells width + x / 8
-cell-is width x y left = rw (row-of y x width left, column-of y x width left)
+cell-is width x y left = rw (digits-div y left, digits-mod y left)
 
 few : (x width : ℕ) → x < width → x / 8 < cells width
 few x width h = omega arith
 
 pub cell-in : (width height x y : ℕ) → x < width → y < height → y / 8 * cells width + x / 8 < cells width * cells height
 cell-in width height x y left above =
-    omega (arith, in-rows (y / 8) (x / 8) (cells height) (cells width) (few y height above) (few x width left), mul-comm (cells height) (cells width))
+    omega (arith, digits-lt (few y height above) (few x width left), mul-comm (cells height) (cells width))
 
 -- slices of the same lengths
 pub still-sound : {models : List Float} {kept₀ cover₀ kept cover : List ℕ} {width height : ℕ} → Sound models kept₀ cover₀ width height

@@ -3,20 +3,20 @@ use mathlib.Core.Path.{_≡_, refl, sym, ap, _∙_}
 use mathlib.Core.Bool.{Bool, true, false, cond}
 use mathlib.Core.Logic.{_⊎_, ⊎-elim}
 use mathlib.Core.List.{List}
-use Prim.Native.Nat.{ℕ, zero, suc, _+_, _*_, _≤_, _<_}
+use Prim.Native.Nat.{ℕ, zero, suc, _*_, _≤_, _<_}
 use native.Mathlib.Nat.{eq-or-lt-of-le, mul-comm}
 use native.Mathlib.Omega.{arith}
 use borrow.Author.Tests.{eqb-true}
 use lib.Dec.{eqb}
 use lib.ListN.{length, getD, replicate, length-set, length-replicate, getD-replicate}
 use lib.Ieee.{Float}
-use Rattle.rules.specs.Forms.{turns, scan, tabulate, cells}
+use Rattle.rules.specs.Forms.{turns, scan, cells}
 use Rattle.rules.specs.Literals.{0·0, 1·0}
 use Rattle.rules.specs.Model.{Fitted, unfitted}
 use Rattle.rules.specs.Keeping.{kept, cover, keptModels}
 use Rattle.rules.specs.Assembly.{modelSlice}
 use Rattle.table.specs.Models.{modelAt, modelPut}
-use Rattle.table.proofs.Lists.{list-is, table-same}
+use Rattle.laws.proofs.Lists.{is-table, table-same}
 use Rattle.table.proofs.Models.{model-at, put-same, put-other}
 use Rattle.table.proofs.Turns.{scan-flat}
 use Rattle.near.specs.declared.Verdict.{Verdict}
@@ -93,7 +93,7 @@ module _ (models : List Float) (kept₀ cover₀ : List ℕ) (width height : ℕ
       → models' ≡ turns (resetStep kept') (length kept') models → Kept rough (width, height) models' cover'
   unfolding modelSlice keptModels cover
   kept-whole kept' cover' models' e f =
-      record { models-are = table-same (width * height) _ _ at-each; cover-is = list-is 0 cover' many _ (done .cover-long) (done .cells-are) }
+      record { models-are = table-same (width * height) _ _ at-each; cover-is = is-table many _ cover' 0 (done .cover-long) (done .cells-are) }
     where
       many : ℕ
       many = cells width * cells height

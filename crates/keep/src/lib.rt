@@ -1,7 +1,7 @@
 // The keeping pass: which of the found models stay, and which cells they mark.
 use near::Verdict;
 ghost use mathlib.Core.Path.{_≡_};
-ghost use Prim.Native.Nat.{ℕ, _+_, _*_, _<_, _≤_};
+ghost use Prim.Native.Nat.{_*_, _<_, _≤_};
 ghost use lib.ListN.{length, replicate};
 ghost use Rattle.rules.specs.Forms.{turns, scanRow, scan};
 ghost use Rattle.rules.specs.Assembly.{modelSlice};

@@ -1,11 +1,12 @@
 -- Laws of `tabulate`, `turns`, `any`, `howMany` and of the transform's `least`. Assumes nothing.
-use mathlib.Core.Path.{_≡_, refl, ap}
+use mathlib.Core.Path.{_≡_, refl, sym, ap, _∙_}
 use mathlib.Core.Bool.{Bool, true, false, not, cond, _||_}
 use mathlib.Core.List.{List}
 use Prim.Native.Nat.{ℕ, zero, suc, _+_, _≤_, _<_, min}
 use native.Mathlib.Omega.{arith}
 use lib.Dec.{T, ltb, nltb→le, ltb→lt}
 use lib.ListN.{length, getD, List·getD-eq-default}
+use lib.Seq.{ext-getD}
 use Rattle.rules.specs.Forms.{turns, tabulate, any, howMany}
 use Rattle.rules.specs.Distances.{least, whole, nearestTo, distances}
 
@@ -26,6 +27,21 @@ pub getD-beyond : {A : Type 0} (n : ℕ) (f : ℕ → A) (k : ℕ) (d : A) → n
 getD-beyond n f k d h =
     let l : length (tabulate n f) ≤ k = rw (length-tabulate n f) h in
     List·getD-eq-default (tabulate n f) d l
+
+-- a list with the entries of a table is the table
+pub is-table : {A : Type 0} (n : ℕ) (f : ℕ → A) (list : List A) (d : A) → length list ≡ n → ((k : ℕ) → k < n → getD list k d ≡ f k) → list ≡ tabulate n f
+is-table n f list d long at =
+    ext-getD d list (tabulate n f) (long ∙ sym (length-tabulate n f))
+    (λ k h. let below : k < n = omega (arith, h) in at k below ∙ sym (getD-tabulate n f k d below))
+
+-- tables of the same entries are the same
+pub table-same : {A : Type 0} (n : ℕ) (f g : ℕ → A) → ((k : ℕ) → k < n → f k ≡ g k) → tabulate n f ≡ tabulate n g
+unfolding tabulate
+table-same zero f g same = refl
+table-same (suc n) f g same =
+    let h = same zero (omega arith) in
+    let t = table-same n (λ k. f (suc k)) (λ k. g (suc k)) (λ k b. same (suc k) (omega arith)) in
+    rw (h, t)
 
 -- a fact of two tables at place k: it holds of the entries, and of two defaults
 pub tabulate-both : {A B : Type 0} (R : A → B → Type 0) (n : ℕ) (f : ℕ → A) (g : ℕ → B) (a : A) (b : B)

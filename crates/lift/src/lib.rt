@@ -3,6 +3,7 @@ use rules::Model;
 use rules::Ring;
 use rules::Scene;
 ghost use mathlib.Core.Path.{_≡_};
+ghost use mathlib.Core.Bool.{cond};
 ghost use Rattle.rules.specs.Model.{isPlain};
 ghost use Rattle.rules.specs.Scene.{value as valueOf, lift as liftOf, lifted as liftedOf, gathered, meanOr};
 ghost use Rattle.rules.specs.Unpeel.{relaid as relaidOf};
@@ -63,15 +64,23 @@ pub fn mean_or(r: Ring, other: Scene) -> Scene
     }
 }
 
-// A pixel under the layer again: own bytes mixed, or the middle scene value with the layer on it.
+// One of two floats.
+fn chosen(b: bool, x: f32, y: f32) -> f32
+    ensures { λ r. ⌜ r ≡ cond b x y ⌝ }
+{
+    if b { x } else { y }
+}
+
+// A pixel under the layer again: own bytes mixed, or the middle scene value with the layer on it. Both are made, and
+// each size is tested from both sides: straight lines.
 pub fn relaid(m: Model, first: f32, second: f32, time: f32, old: f32) -> f32
     ensures { λ r. ⌜ r ≡ relaidOf m first second time old ⌝ }
 {
-    if float::abs(m.gain) < 0.2 {
-        return float::mix(first, second, time);
-    }
-    if float::abs(first - second) <= 2.5 {
-        return float::mix(first, second, time);
-    }
-    m.gain * float::median(old, lift(first, m), lift(second, m)) + m.offset
+    let mixed = float::mix(first, second, time);
+    let middle = float::median(old, lift(first, m), lift(second, m));
+    let laid = m.gain * middle + m.offset;
+    let d = first - second;
+    let apart = chosen(d <= 2.5, chosen(-d <= 2.5, mixed, laid), laid);
+    let gain = m.gain;
+    chosen(gain < 0.2, chosen(-gain < 0.2, mixed, apart), apart)
 }

@@ -16,7 +16,8 @@ use Rattle.rules.specs.Still.{sameAt, fullCorner as full, still}
 use Rattle.pass.specs.Pass.{PlaneIn}
 use Rattle.pass.specs.Table.{RowsStored}
 use Rattle.pass.proofs.Accepted.{passed, sizes-in, first-in}
-use Rattle.pass.proofs.Tables.{length-tabulate, getD-tabulate, is-table, table, table-length, table-at}
+use Rattle.laws.proofs.Lists.{length-tabulate, getD-tabulate, is-table}
+use Rattle.pass.proofs.Tables.{table, table-length, table-at}
 use Rattle.same.specs.Same.{bitOf, sameBit}
 use Rattle.corner.specs.Corner.{fullBy, stillBy, bothBits, Holds, RowsMarked}
 use Rattle.mask.specs.Call.{callOf}

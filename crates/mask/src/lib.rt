@@ -1,8 +1,7 @@
 // Mask: 1 where the picture is still, 0 elsewhere. The bytes that it fills carry the passes, so that it needs no others.
 use rules::Answer;
 ghost use mathlib.Core.Path.{_≡_};
-ghost use Prim.Native.Nat.{_*_, _/_};
-ghost use lib.Dec.{eqb};
+ghost use Prim.Native.Nat.{_/_};
 ghost use lib.ListN.{length, getD};
 ghost use Rattle.rules.specs.Forms.{tabulate};
 ghost use Rattle.rules.specs.Calls.{Settings};
@@ -20,17 +19,6 @@ fn halve(still: &mut [u8])
     while k < still.len() {
         still[k] = still[k] / 2;
         k += 1;
-    }
-}
-
-// A length of width times height. The product, which may not fit, is not made.
-fn exact(size: usize, width: usize, height: usize) -> bool
-    ensures { λ r. ⌜ r ≡ eqb size (width * height) ⌝ }
-{
-    if height == 0 {
-        size == 0
-    } else {
-        plane::both(plane::divides(height, size), size / height == width)
     }
 }
 
@@ -52,7 +40,7 @@ fn mask_refusal(
         plane::planed(first.len(), pitch, width, height),
         plane::both(plane::planed(second.len(), pitch, width, height), true),
     );
-    let filled = exact(still.len(), width, height);
+    let filled = plane::is_product(still.len(), width, height);
     let rest = plane::unless(4, lengths, plane::unless(4, filled, 0));
     plane::unless(1, sizes, plane::unless(3, pitches, rest))
 }

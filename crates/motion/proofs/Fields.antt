@@ -1,7 +1,7 @@
 -- A motion number is read back from its bits; a number stands within its field; a pixel row's number times the ratio is small; what is carried gives the definition's steps.
 -- Assumes nothing.
 use mathlib.Core.Path.{_≡_, refl, ap, _∙_}
-use Prim.Native.Nat.{ℕ, _+_, _-_, _*_, _^_, _≤_, _<_}
+use Prim.Native.Nat.{ℕ, _+_, _*_, _^_, _≤_, _<_}
 use native.Mathlib.Nat.{mul-comm, mul-le-mul, mul-le-mul-right, suc-mul, le-trans}
 use native.Mathlib.Omega.{arith}
 use mathlib.Core.List.{List}

@@ -5,6 +5,7 @@ use mathlib.Core.List.{List}
 use Prim.Native.Nat.{ℕ, _+_, _*_, _≤_, _<_}
 use native.Mathlib.Nat.{mul-comm}
 use native.Mathlib.Omega.{arith}
+use lib.Arith.{digits-div, digits-lt, digits-mod}
 use lib.Dec.{leb}
 use lib.Ieee.{Float}
 use Rattle.rules.specs.declared.Model.{Model}
@@ -12,14 +13,13 @@ use Rattle.rules.specs.Model.{Fitted, set, isPlain}
 use Rattle.rules.specs.Keeping.{modelOf, near}
 use Rattle.rules.specs.Assembly.{modelSlice}
 use Rattle.table.specs.Models.{modelAt}
-use Rattle.table.proofs.Places.{in-rows, row-of, column-of}
 use Rattle.table.proofs.Models.{model-at}
 use Rattle.near.specs.declared.Verdict.the-variants.{Dropped, Unmarked, Marked}
 use Rattle.near.specs.Verdict.{verdictOf}
 
 module _ (models : List Float) (width height x y : ℕ) (left : x < width) (above : y < height) where
   pub pixel-in : y * width + x < width * height
-  pixel-in = omega (arith, in-rows y x height width above left, mul-comm height width)
+  pixel-in = omega (arith, digits-lt above left, mul-comm height width)
 
   pub model-is : modelOf (modelSlice models (width * height)) (y * width + x) ≡ modelAt models (y * width + x) .model
   model-is = ap (λ (m : Fitted). m .model) (model-at models (width * height) (y * width + x) pixel-in)
@@ -35,4 +35,4 @@ pub verdict-is : (models : List Float) (width height x y : ℕ) → x < width �
     ≡ cond (set m) (cond (leb 3 (near (modelSlice models (width * height)) (width, height) x y)) Marked Dropped) (cond (isPlain m) Dropped Unmarked)
 unfolding verdictOf
 verdict-is models width height x y left above m e =
-    rw (model-is models width height x y left above, ← e, column-of y x width left, row-of y x width left)
+    rw (model-is models width height x y left above, ← e, digits-mod y left, digits-div y left)

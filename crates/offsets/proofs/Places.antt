@@ -2,18 +2,18 @@
 use Prim.Native.Nat.{ℕ, _+_, _*_, _<_}
 use native.Mathlib.Nat.{mul-comm}
 use native.Mathlib.Omega.{arith}
-use Rattle.table.proofs.Places.{in-rows}
+use lib.Arith.{digits-lt}
 use Rattle.offsets.specs.declared.Grid.{Grid}
 use Rattle.offsets.specs.Grid.{Formed}
 
 -- a luma pixel of chroma pixel (x, y)
 module _ (g : Grid) (f : Formed g) (x y dx dy : ℕ) (left : x < g .half) (above : y < g .rows) (across : dx < g .ratio) (down : dy < g .ratio) where
   pub luma-row : y * g .ratio + dy < g .height
-  luma-row = let h = in-rows y dy (g .rows) (g .ratio) above down in let e = f .down in omega arith
+  luma-row = let h = digits-lt above down in let e = f .down in omega arith
 
   pub luma-column : x * g .ratio + dx < g .width
-  luma-column = let h = in-rows x dx (g .half) (g .ratio) left across in let e = f .across in omega arith
+  luma-column = let h = digits-lt left across in let e = f .across in omega arith
 
   pub luma-place : (y * g .ratio + dy) * g .width + (x * g .ratio + dx) < g .width * g .height
   luma-place =
-      omega (arith, in-rows (y * g .ratio + dy) (x * g .ratio + dx) (g .height) (g .width) luma-row luma-column, mul-comm (g .height) (g .width))
+      omega (arith, digits-lt luma-row luma-column, mul-comm (g .height) (g .width))

@@ -1,14 +1,15 @@
 -- The totals as they are summed are the rules' totals. Assumes nothing.
-use mathlib.Core.Path.{_≡_, refl, sym, ap, _∙_}
-use mathlib.Core.Logic.{_⊎_, inl, inr, ⊎-elim}
+use mathlib.Core.Path.{_≡_, ap}
+use mathlib.Core.Logic.{_⊎_, inl, inr}
 use mathlib.Core.Bool.{_&&_}
 use mathlib.Core.List.{List}
-use Prim.Native.Nat.{ℕ, zero, suc, _+_, _-_, _*_, _/_, _%_, _≤_, _<_}
+use Prim.Native.Nat.{ℕ, zero, suc, _+_, _-_, _*_, _≤_, _<_}
 use native.Mathlib.Nat.{add-assoc, suc-mul, mul-le-mul, mul-comm, eq-or-lt-of-le}
 use native.Mathlib.Numerals.{add-one}
 use native.Mathlib.Omega.{arith}
+use lib.Arith.{digits-div, digits-mod}
 use lib.IntN.{ℤ, pos, natAbs, _+ℤ_}
-use lib.ListN.{length, getD}
+use lib.ListN.{getD}
 use lib.Ieee.{Float, nan}
 use Rattle.rules.specs.Forms.{turns, all, scanRow, scan}
 use Rattle.rules.specs.Float.{_⊘_, float}
@@ -19,7 +20,6 @@ use Rattle.table.proofs.Models.{model-at}
 use Rattle.offsets.specs.declared.Grid.{Grid}
 use Rattle.offsets.specs.Grid.{Formed, modelsLong, Block, RowFits, termOf, rowTotal, blockTotal, pointFits, fitsBelow}
 use Rattle.offsets.proofs.Signed.{row-size}
-use Rattle.table.proofs.Places.{row-of, column-of}
 use Rattle.offsets.proofs.Places.{luma-place}
 
 -- the offset of plane 1 or 2 in a model slice
@@ -49,7 +49,7 @@ module _ (g : Grid) (f : Formed g) (s : List Float) (plane x y : ℕ) (b : Block
   pub total-is : blockTotal s plane share (g .width) (g .ratio) x y (g .ratio) ≡ chromaTotal (modelSlice s pixels) (g .width) (g .ratio) plane (y * g .half + x)
   unfolding chromaTotal scan scanRow blockTotal rowTotal
   total-is =
-      rw (← f .half-is, row-of y x (g .half) (b .left), column-of y x (g .half) (b .left))
+      rw (← f .half-is, digits-div y (b .left), digits-mod y (b .left))
       (turns-same _ _ (g .ratio) (λ dy down. turns-same _ _ (g .ratio) (λ dx across t. ap (λ (z : ℤ). t +ℤ z) (term-is dx dy across down))) (pos 0))
 
 -- what a row of the block asks

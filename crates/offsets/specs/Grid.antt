@@ -7,7 +7,7 @@ use lib.IntN.{ℤ, pos, negℤ, natAbs, _+ℤ_}
 use lib.ListN.{length, getD}
 use lib.Ieee.{Float, nan}
 use Rattle.rules.specs.Forms.{turns, all}
-use Rattle.rules.specs.Float.{_⊘_, float}
+use Rattle.rules.specs.Float.{_⊘_}
 use Rattle.rules.specs.Domain.{spans}
 use Rattle.rules.specs.Model.{Fitted}
 use Rattle.rules.specs.Assembly.{storedOffset, chromaTotal}

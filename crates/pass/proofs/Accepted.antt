@@ -1,6 +1,6 @@
 -- What the tests of a table say where none of its rows fits. Assumes nothing.
-use mathlib.Core.Path.{_≡_, refl, sym}
-use mathlib.Core.Bool.{Bool, true, false, not, cond, _&&_, false≢true}
+use mathlib.Core.Path.{_≡_, refl}
+use mathlib.Core.Bool.{Bool, true, false, not, cond, _&&_}
 use mathlib.Core.List.{List, _∷_}
 use Prim.Native.Nat.{ℕ, suc, _-_, _≤_, _<_}
 use native.Mathlib.Nat.{mul-le-mul-right}
@@ -10,22 +10,11 @@ use lib.Dec.{leb}
 use lib.ListN.{length}
 use Rattle.rules.specs.Forms.{Plane, each}
 use Rattle.rules.specs.Domain.{isSize, areSizes, isPitch, isPlane, havePitches, haveLengths}
+use Rattle.laws.proofs.Accepted.{both}
 use Rattle.pass.specs.Pass.{RowIn, PlaneIn}
-
--- an `&&` that is true: both are
-pub both : (a b : Bool) → (a && b) ≡ true → (a ≡ true) × (b ≡ true)
-both true true e = (e, e)
-both true false e = (refl, e)
-both false b e = (e, absurd (false≢true e))
 
 pub and-true : (a b : Bool) → a ≡ true → b ≡ true → (a && b) ≡ true
 and-true a b e f = rw (e, f)
-
--- two tests that mean the same are the same
-pub tests-same : (p q : Bool) → (p ≡ true → q ≡ true) → (q ≡ true → p ≡ true) → p ≡ q
-tests-same true q f g = sym (f refl)
-tests-same false true f g = g refl
-tests-same false false f g = refl
 
 -- a row that does not fit, and the rows after it
 pub passed : (n rest : ℕ) (a : Bool) → cond (not a) (suc n) rest ≡ 0 → (a ≡ true) × (rest ≡ 0)

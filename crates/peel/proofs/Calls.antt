@@ -1,24 +1,23 @@
 -- A call that is refused, and one that is run; and what the run may rely on. Assumes nothing.
-use mathlib.Core.Path.{_≡_, refl, sym, ap, _∙_}
-use mathlib.Core.Bool.{Bool, true, cond, not, _&&_}
+use mathlib.Core.Path.{_≡_}
+use mathlib.Core.Bool.{Bool, true, _&&_}
 use mathlib.Core.List.{List}
-use Prim.Native.Nat.{ℕ, _+_, _-_, _*_, _/_, _≤_}
+use Prim.Native.Nat.{ℕ, _/_, _≤_}
 use native.Mathlib.Omega.{arith}
-use borrow.Author.Tests.{ne-eqb, leb-true}
-use lib.Dec.{leb}
+use borrow.Author.Tests.{ne-eqb}
 use lib.IntN.{ℤ}
 use lib.Ieee.{Float}
 use Rattle.rules.specs.Forms.{Rule, Plane, painted, counted, each, answer, leaves}
-use Rattle.rules.specs.Domain.{isPitch, isPlane, isTime}
+use Rattle.rules.specs.Domain.{isPitch, isPlane}
 use Rattle.rules.specs.Refusals.{firstFitting, peelRefusal, unpeelRefusal}
 use Rattle.laws.proofs.Accepted.{both}
 use Rattle.plane.specs.Done.{RowsDone}
 use Rattle.sample.specs.Points.{PlaneFits}
 use Rattle.limits.proofs.Accepted.{plane-in}
 use Rattle.lent.specs.declared.Shape.{Shape}
-use Rattle.lent.specs.declared.Plan.{Plan}
 use Rattle.lent.specs.Lent.{lay, ratioOf, planOf, Planned, Sound}
 use Rattle.layered_rows.specs.Rows.{Given, RowsAsk}
+use Rattle.refuse.specs.Rows.{framesRowsOf, timeRowOf}
 use Rattle.refuse.proofs.Accepted.{accepted}
 use Rattle.peel.specs.Done.{Done}
 
@@ -45,7 +44,7 @@ module _ (s : Shape) (p : Planned (planOf s)) where
   asked bytes pitch narrow long = let f = fits bytes pitch narrow long in record { apart = f .apart; long = f .long }
 
 -- what a pass asks of a layer and its byte planes
-abbrev Runs : Shape → List ℤ → List ℕ → List ℤ → List ℕ → List ℤ → List ℕ → (output first second : Plane) → Type 0
+abbrev pub Runs : Shape → List ℤ → List ℕ → List ℤ → List ℕ → List ℤ → List ℕ → (output first second : Plane) → Type 0
 Runs s l lb a ab b bb output first second =
     Given (planOf s) l lb a ab b bb (first .bytes) (first .pitch) (second .bytes) (second .pitch) × RowsAsk (planOf s) (output .bytes) (output .pitch)
 
@@ -76,14 +75,19 @@ module _ (s : Shape) (l : List ℤ) (lb : List ℕ) (a : List ℤ) (ab : List �
       let r : (narrow raw ≡ true) × (long raw ≡ true) = (both (narrow raw) true (n .1) .0, both (long raw) true (m .1) .0) in
       runs output raw raw (t .sound) (n .0, m .0) r r
 
-  pub unpeel-runs : (output first second : Plane) (time : Float)
-      → unpeelRefusal (record { layer = lay s l lb a ab b bb; plane = s .plane; output = output; frames = record { first = first; second = second; time = time } }) ≡ 0
-      → Runs s l lb a ab b bb output first second
-  unfolding unpeelRefusal firstFitting each
-  unpeel-runs output first second time e =
-      let t = accepted s l lb a ab b bb (narrow output && (narrow first && (narrow second && true))) (long output && (long first && (long second && true))) (cond (not (isTime time)) 6 0) e in
+  -- an output and a plane of each frame, whatever rows come after theirs
+  pub frames-run : (output first second : Plane) (rest : ℕ) → framesRowsOf (lay s l lb a ab b bb) (s .plane) output first second rest ≡ 0
+      → Runs s l lb a ab b bb output first second × (rest ≡ 0)
+  frames-run output first second rest e =
+      let t = accepted s l lb a ab b bb (narrow output && (narrow first && (narrow second && true))) (long output && (long first && (long second && true))) rest e in
       let n = both (narrow output) (narrow first && (narrow second && true)) (t .pitches) in
       let m = both (long output) (long first && (long second && true)) (t .lengths) in
       let n′ = both (narrow first) (narrow second && true) (n .1) in
       let m′ = both (long first) (long second && true) (m .1) in
-      runs output first second (t .sound) (n .0, m .0) (n′ .0, m′ .0) (both (narrow second) true (n′ .1) .0, both (long second) true (m′ .1) .0)
+      (runs output first second (t .sound) (n .0, m .0) (n′ .0, m′ .0) (both (narrow second) true (n′ .1) .0, both (long second) true (m′ .1) .0), t .more)
+
+  pub unpeel-runs : (output first second : Plane) (time : Float)
+      → unpeelRefusal (record { layer = lay s l lb a ab b bb; plane = s .plane; output = output; frames = record { first = first; second = second; time = time } }) ≡ 0
+      → Runs s l lb a ab b bb output first second
+  unfolding unpeelRefusal firstFitting each
+  unpeel-runs output first second time e = frames-run output first second (timeRowOf time) e .0

@@ -65,7 +65,7 @@ pub fn unpeel(
 ) -> Answer
     ensures { λ r. ⌜ (let c : UnpeelCall = record { layer = lay s (now (l .entry)) (now (lb .entry)) (now (a .entry)) (now (ab .entry)) (now (b .entry)) (now (bb .entry)); plane = s .plane; output = record { bytes = now (output .entry); pitch = opitch }; frames = record { first = record { bytes = now (first .entry); pitch = fpitch }; second = record { bytes = now (second .entry); pitch = spitch }; time = time } } in Done (unpeelAnswer c) (unpeelLeaves c) (now (output .exit)) r) ⌝ }
 {
-    let number = refuse::unpeel_refusal(
+    let refusal = refuse::unpeel_refusal(
         s,
         l,
         lb,
@@ -81,11 +81,14 @@ pub fn unpeel(
         spitch,
         time,
     );
-    if number != 0 {
-        return Answer { number, count: 0 };
+    if refusal != 0 {
+        return Answer {
+            number: refusal,
+            count: 0,
+        };
     }
     let p = lent::planned(s);
-    let count = layered_rows::rows(
+    let laid = layered_rows::rows(
         output,
         opitch,
         Work::Unpeel(time),
@@ -101,5 +104,8 @@ pub fn unpeel(
         second,
         spitch,
     );
-    Answer { number: 0, count }
+    Answer {
+        number: 0,
+        count: laid,
+    }
 }

@@ -1,14 +1,14 @@
 -- The laws of a pass over a plane, stated once over any rule: what one dot, a run of pixels passed over, and one row add to what is painted and counted.
 -- Assumes nothing.
 use mathlib.Core.Path.{_≡_, refl, sym, ap, _∙_}
-use mathlib.Core.Bool.{Bool, true, false, cond}
+use mathlib.Core.Bool.{Bool, true, false, cond, _&&_}
 use mathlib.Core.List.{List}
-use Prim.Native.Nat.{ℕ, zero, suc, _+_, _-_, _*_, _/_, _≤_, _<_}
+use Prim.Native.Nat.{ℕ, zero, suc, _+_, _-_, _*_, _/_, _%_, _≤_, _<_}
 use native.Mathlib.Numerals.{add-one}
 use native.Mathlib.Omega.{arith}
-use native.Mathlib.Nat.{mul-comm, le-div-iff-mul-le}
-use borrow.Author.Tests.{leb-true, le-leb}
-use lib.Dec.{leb}
+use native.Mathlib.Nat.{mul-comm, le-div-iff-mul-le, mul-div-cancel, mul-mod-left, div-add-mod'}
+use borrow.Author.Tests.{leb-true, le-leb, eqb-true, eqb-false, eq-eqb, ne-eqb}
+use lib.Dec.{leb, eqb}
 use lib.ListN.{getD, set}
 use Rattle.plane.specs.declared.Dot.{Dot}
 use Rattle.plane.specs.declared.Dot.the-variants.{Keep, Put}
@@ -99,13 +99,13 @@ rows-more small done row =
 -- ---- tests
 
 -- two tests that mean the same are the same
+pub tests-same : (p q : Bool) → (p ≡ true → q ≡ true) → (q ≡ true → p ≡ true) → p ≡ q
+tests-same true q f g = sym (f refl)
+tests-same false true f g = g refl
+tests-same false false f g = refl
+
 pub leb-same : (a b c d : ℕ) → (a ≤ b → c ≤ d) → (c ≤ d → a ≤ b) → leb a b ≡ leb c d
-leb-same a b c d f g = go (leb a b) (leb c d) (λ t. le-leb c d (f (leb-true a b t))) (λ t. le-leb a b (g (leb-true c d t)))
-  where
-    go : (p q : Bool) → (p ≡ true → q ≡ true) → (q ≡ true → p ≡ true) → p ≡ q
-    go true q f g = sym (f refl)
-    go false true f g = g refl
-    go false false f g = refl
+leb-same a b c d f g = tests-same (leb a b) (leb c d) (λ t. le-leb c d (f (leb-true a b t))) (λ t. le-leb a b (g (leb-true c d t)))
 
 -- rows a pitch apart fit where their number is at most the quotient
 pub quotient : (size rows pitch more : ℕ) → more ≤ size → (pitch ≡ 0 → ⊥) → leb rows ((size - more) / pitch) ≡ leb (rows * pitch + more) size
@@ -114,6 +114,18 @@ quotient size rows pitch more room some =
     leb-same rows ((size - more) / pitch) (rows * pitch + more) size
     (λ h. let k = le-div-iff-mul-le {k = pitch} {x = rows} {y = size - more} p .0 h in omega arith)
     (λ h. le-div-iff-mul-le {k = pitch} {x = rows} {y = size - more} p .1 (omega arith))
+
+-- n is a times b where b goes into it, a times
+pub product : (n a b : ℕ) → 0 < b → (eqb (n % b) 0 && eqb (n / b) a) ≡ eqb n (a * b)
+product n a b some = go (eqb (n % b) 0) refl
+  where
+    go : (t : Bool) → eqb (n % b) 0 ≡ t → (t && eqb (n / b) a) ≡ eqb n (a * b)
+    go true e =
+        let none = eqb-true (n % b) 0 e in
+        tests-same (eqb (n / b) a) (eqb n (a * b))
+        (λ t. let d : a * b + n % b ≡ n = rw (eqb-true (n / b) a t) at (div-add-mod' n b) in eq-eqb n (a * b) (omega arith))
+        (λ t. eq-eqb (n / b) a (rw (eqb-true n (a * b) t) (mul-div-cancel a some)))
+    go false e = sym (ne-eqb n (a * b) (λ q. eqb-false (n % b) 0 e (rw q (mul-mod-left a b))))
 
 -- twice as much fits where as much fits a half
 pub halved : (size rows pitch : ℕ) → leb (rows * pitch + 0) (size / 2) ≡ leb (2 * (pitch * rows)) size

@@ -1,10 +1,10 @@
-// Byte planes: the tests of sizes, ratios, pitches and lengths, and one dot of a pass.
+// Byte planes: the tests of sizes, ratios, pitches, lengths and times, and one dot of a pass.
 ghost use mathlib.Core.Path.{_≡_};
 ghost use mathlib.Core.Bool.{_&&_, _||_, not, cond};
 ghost use Prim.Native.Nat.{_+_, _-_, _*_, _/_, _%_, _<_, _≤_, _^_};
 ghost use lib.Dec.{leb, eqb};
 ghost use lib.ListN.{length};
-ghost use Rattle.rules.specs.Domain.{isSize, isRatio, isPitch};
+ghost use Rattle.rules.specs.Domain.{isSize, isRatio, isPitch, isTime};
 ghost use Rattle.plane.specs.Done.{Stamped};
 
 // What a rule does to one pixel: it keeps its byte, or a byte is put in its place.
@@ -41,6 +41,13 @@ pub fn pitched(pitch: usize, width: usize) -> bool
     width <= pitch && pitch <= 65536
 }
 
+// A time from 0 to 1.
+pub fn timed(time: f32) -> bool
+    ensures { λ r. ⌜ r ≡ isTime time ⌝ }
+{
+    both(0.0 <= time, time <= 1.0)
+}
+
 // Two tests, or three, joined without a branch of the caller's own.
 pub fn both(a: bool, b: bool) -> bool
     ensures { λ r. ⌜ r ≡ (a && b) ⌝ }
@@ -61,18 +68,30 @@ pub fn unless(number: u8, right: bool, rest: u8) -> u8
     if right { rest } else { number }
 }
 
-// The quotient, 0 for a divisor 0.
+// The quotient, 0 for a divisor 0. The common ratios are constants, which spare the processor's division.
 pub fn divided(n: usize, by: usize) -> usize
     ensures { λ r. ⌜ r ≡ n / by ⌝ }
 {
-    if by == 0 { 0 } else { n / by }
+    if by == 0 {
+        return 0;
+    }
+    if by == 1 {
+        return n;
+    }
+    if by == 2 { n / 2 } else { n / by }
 }
 
 // The divisor goes into n, and 0 into 0 alone.
 pub fn divides(by: usize, n: usize) -> bool
     ensures { λ r. ⌜ r ≡ eqb (n % by) 0 ⌝ }
 {
-    if by == 0 { n == 0 } else { n % by == 0 }
+    if by == 0 {
+        return n == 0;
+    }
+    if by == 1 {
+        return true;
+    }
+    if by == 2 { n % 2 == 0 } else { n % by == 0 }
 }
 
 // One of the three ratios.
@@ -93,18 +112,20 @@ pub fn ratioed(ratio: usize, width: usize, height: usize) -> bool
     all(one_of(ratio), divides(ratio, width), divides(ratio, height))
 }
 
-// A slice of this length has so many rows a pitch apart and `more` entries after them. No product is made.
+// A slice of this length has so many rows a pitch apart and `more` entries after them. No product wraps.
 pub fn holds(size: usize, rows: usize, pitch: usize, more: usize) -> bool
     ensures { λ r. ⌜ r ≡ leb (rows * pitch + more) size ⌝ }
 {
     if size < more {
-        false
+        return false;
+    }
+    if rows <= 65536 && pitch <= 65536 {
+        return rows * pitch <= size - more;
+    }
+    if pitch == 0 {
+        true
     } else {
-        if pitch == 0 {
-            true
-        } else {
-            rows <= (size - more) / pitch
-        }
+        rows <= (size - more) / pitch
     }
 }
 
@@ -124,6 +145,49 @@ pub fn layered(size: usize, pitch: usize, rows: usize) -> bool
     ensures { λ r. ⌜ r ≡ leb (2 * (pitch * rows)) size ⌝ }
 {
     holds(size / 2, rows, pitch, 0)
+}
+
+// n is this product.
+pub fn is_product(n: usize, a: usize, b: usize) -> bool
+    ensures { λ r. ⌜ r ≡ eqb n (a * b) ⌝ }
+{
+    if b == 0 {
+        n == 0
+    } else {
+        both(divides(b, n), n / b == a)
+    }
+}
+
+// A slice of this length has exactly so many entries for each place of so many rows.
+pub fn exact(size: usize, many: usize, width: usize, height: usize) -> bool
+    ensures { λ r. ⌜ r ≡ eqb size (many * (width * height)) ⌝ }
+{
+    if many == 0 {
+        size == 0
+    } else {
+        both(divides(many, size), is_product(size / many, width, height))
+    }
+}
+
+// Three slices of these lengths have so many entries per luma pixel, and two per chroma pixel.
+pub fn exact_planes(
+    luma: usize,
+    chroma1: usize,
+    chroma2: usize,
+    many: usize,
+    width: usize,
+    height: usize,
+    ratio: usize,
+) -> bool
+    ensures { λ r. ⌜ r ≡ (eqb luma (many * (width * height)) && eqb chroma1 (2 * (width / ratio * (height / ratio))) && eqb chroma2 (2 * (width / ratio * (height / ratio)))) ⌝ }
+{
+    let across = divided(width, ratio);
+    let down = divided(height, ratio);
+    all(
+        exact(luma, many, width, height),
+        exact(chroma1, 2, across, down),
+        exact(chroma2, 2, across, down),
+    )
 }
 
 // The ratio of a plane of a layer.

@@ -1,9 +1,10 @@
 -- The rows that every call over a layer shares, before the rest of its table.
-use mathlib.Core.Bool.{Bool, cond, not}
+use mathlib.Core.Bool.{Bool, true, cond, not, _&&_}
 use Prim.Native.Nat.{ℕ}
 use lib.Dec.{leb}
-use Rattle.rules.specs.Forms.{Layer}
-use Rattle.rules.specs.Domain.{areSizes, isRatio, layerPitches, layerLengths}
+use lib.Ieee.{Float}
+use Rattle.rules.specs.Forms.{Layer, Plane, planeSize}
+use Rattle.rules.specs.Domain.{areSizes, isRatio, isPitch, isPlane, layerPitches, layerLengths, isTime}
 
 -- the first fitting number, by what holds of the byte planes' pitches and lengths, and by what the rest says
 abbrev pub rowsOf : Layer → (plane : ℕ) → (pitched long : Bool) → (rest : ℕ) → ℕ
@@ -15,3 +16,14 @@ rowsOf l plane pitched long rest =
     cond (not pitched) 3 (
     cond (not long) 4 (
     cond (not (layerLengths l)) 4 rest))))))
+
+-- the same, where the byte planes are an output and one of each frame
+abbrev pub framesRowsOf : Layer → (plane : ℕ) → (output first second : Plane) → (rest : ℕ) → ℕ
+framesRowsOf l plane output first second rest =
+    let narrow : Plane → Bool = λ p. isPitch (p .pitch) (planeSize l plane .0) in
+    let long : Plane → Bool = λ p. isPlane p (planeSize l plane) in
+    rowsOf l plane (narrow output && (narrow first && (narrow second && true))) (long output && (long first && (long second && true))) rest
+
+-- a table whose only row is a time's
+abbrev pub timeRowOf : Float → ℕ
+timeRowOf time = cond (not (isTime time)) 6 0

@@ -2,16 +2,11 @@
 use lent::Shape;
 ghost use mathlib.Core.Path.{_≡_};
 ghost use mathlib.Core.Bool.{_&&_, true};
-ghost use mathlib.Core.List.{[]};
 ghost use Prim.Native.Nat.{_/_};
-ghost use lib.Dec.{leb};
-ghost use lib.ListN.{length};
-ghost use lib.Ieee.{Float};
-ghost use Rattle.rules.specs.Forms.{planeSize};
-ghost use Rattle.rules.specs.Domain.{isPitch, isPlane, layerPitches, layerLengths, isTime};
+ghost use Rattle.rules.specs.Domain.{isPitch, isPlane, layerLengths};
 ghost use Rattle.rules.specs.Refusals.{emptyRefusal, peelRefusal, unpeelRefusal};
 ghost use Rattle.lent.specs.Lent.{lay, ratioOf};
-ghost use Rattle.refuse.specs.Rows.{rowsOf};
+ghost use Rattle.refuse.specs.Rows.{rowsOf, framesRowsOf, timeRowOf};
 
 // The layer's pitches.
 fn pitches(s: Shape) -> bool
@@ -128,11 +123,47 @@ pub fn peel_refusal(
     rows(s, l, lb, a, ab, b, bb, pitched, long, 0)
 }
 
-// Whether a time is from 0 to 1.
-fn timed(time: f32) -> bool
-    ensures { λ r. ⌜ r ≡ isTime time ⌝ }
+// An output and a plane of each frame, and then the rest.
+pub fn frames_rows(
+    s: Shape,
+    l: &[i16],
+    lb: &[u8],
+    a: &[i16],
+    ab: &[u8],
+    b: &[i16],
+    bb: &[u8],
+    output: &[u8],
+    opitch: usize,
+    first: &[u8],
+    fpitch: usize,
+    second: &[u8],
+    spitch: usize,
+    rest: u8,
+) -> u8
+    ensures { λ r. ⌜ r ≡ framesRowsOf (lay s (now (l .entry)) (now (lb .entry)) (now (a .entry)) (now (ab .entry)) (now (b .entry)) (now (bb .entry))) (s .plane) (record { bytes = now (output .entry); pitch = opitch }) (record { bytes = now (first .entry); pitch = fpitch }) (record { bytes = now (second .entry); pitch = spitch }) rest ⌝ }
 {
-    plane::both(0.0 <= time, time <= 1.0)
+    let pitched = plane::both(
+        over_pitch(s, opitch),
+        plane::both(
+            over_pitch(s, fpitch),
+            plane::both(over_pitch(s, spitch), true),
+        ),
+    );
+    let long = plane::both(
+        over_length(s, output, opitch),
+        plane::both(
+            over_length(s, first, fpitch),
+            plane::both(over_length(s, second, spitch), true),
+        ),
+    );
+    rows(s, l, lb, a, ab, b, bb, pitched, long, rest)
+}
+
+// The row of a time between two frames, which is a table's last.
+pub fn time_row(time: f32) -> u8
+    ensures { λ r. ⌜ r ≡ timeRowOf time ⌝ }
+{
+    plane::unless(6, plane::timed(time), 0)
 }
 
 // The number of unpeel's refusal, or 0.
@@ -154,21 +185,7 @@ pub fn unpeel_refusal(
 ) -> u8
     ensures { λ r. ⌜ r ≡ unpeelRefusal (record { layer = lay s (now (l .entry)) (now (lb .entry)) (now (a .entry)) (now (ab .entry)) (now (b .entry)) (now (bb .entry)); plane = s .plane; output = record { bytes = now (output .entry); pitch = opitch }; frames = record { first = record { bytes = now (first .entry); pitch = fpitch }; second = record { bytes = now (second .entry); pitch = spitch }; time = time } }) ⌝ }
 {
-    let pitched = plane::both(
-        over_pitch(s, opitch),
-        plane::both(
-            over_pitch(s, fpitch),
-            plane::both(over_pitch(s, spitch), true),
-        ),
-    );
-    let long = plane::both(
-        over_length(s, output, opitch),
-        plane::both(
-            over_length(s, first, fpitch),
-            plane::both(over_length(s, second, spitch), true),
-        ),
-    );
-    rows(
+    frames_rows(
         s,
         l,
         lb,
@@ -176,8 +193,12 @@ pub fn unpeel_refusal(
         ab,
         b,
         bb,
-        pitched,
-        long,
-        plane::unless(6, timed(time), 0),
+        output,
+        opitch,
+        first,
+        fpitch,
+        second,
+        spitch,
+        time_row(time),
     )
 }

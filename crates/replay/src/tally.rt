@@ -17,8 +17,11 @@ fn run(all: &[u8], at: usize) -> Check {
         5 => replay_layer::unpeel::run(all, at),
         6 => replay_layer::peel_numbers::run(all, at),
         7 => replay_layer::unpeel_numbers::run(all, at),
+        8 => replay_layer::empty::run(all, at),
         9 => replay_motion::stats::run(all, at),
         10 => replay_fit::assemble::run(all, at),
+        11 => replay_fit::fit::run(all, at),
+        12 => replay_motion::render::run(all, at),
         _ => cases_right::unread(),
     }
 }

@@ -1,3 +1,4 @@
+pub mod empty;
 pub mod peel;
 pub mod peel_numbers;
 pub mod unpeel;

@@ -2,9 +2,10 @@
 use mathlib.Core.Path.{_≡_, sym, _∙_}
 use mathlib.Core.Bool.{Bool}
 use mathlib.Core.List.{List}
-use Prim.Native.Nat.{ℕ, _+_, _*_, _/_, _<_, _≤_}
+use Prim.Native.Nat.{ℕ, _+_, _*_, _/_, _<_}
 use native.Mathlib.Nat.{div-lt-iff-lt-mul, mul-comm}
 use native.Mathlib.Omega.{arith}
+use lib.Arith.{digits-div, digits-lt, digits-mod}
 use lib.ListN.{length}
 use lib.Ieee.{Float}
 use Rattle.rules.specs.declared.Found.the-variants.{At, Nothing}
@@ -16,7 +17,6 @@ use Rattle.rules.specs.Window.{window, chromaAt, fitted}
 use Rattle.total.specs.declared.Counts.{Counts}
 use Rattle.offsets.specs.declared.Grid.{Grid}
 use Rattle.offsets.specs.Grid.{Formed}
-use Rattle.table.proofs.Places.{in-rows, row-of, column-of}
 use Rattle.window.specs.declared.Offsets.{Offsets}
 use Rattle.window.specs.Lent.{offsetsOf}
 use Rattle.rough.specs.Search.{foundPut, search, searchAt, Searching}
@@ -24,7 +24,7 @@ use Rattle.rough.specs.Search.{foundPut, search, searchAt, Searching}
 -- the chroma pixel of column x and row y
 module _ (g : Grid) (f : Formed g) (x y : ℕ) (left : x < g .width) (above : y < g .height) where
   pub spot-is : chromaAt (g .width) (g .ratio) (y * g .width + x) ≡ y / g .ratio * g .half + x / g .ratio
-  spot-is = rw (row-of y x (g .width) left, column-of y x (g .width) left, f .half-is)
+  spot-is = rw (digits-div y left, digits-mod y left, f .half-is)
 
   pub column-in : x / g .ratio < g .half
   column-in = div-lt-iff-lt-mul {k = g .ratio} {x = x} {y = g .half} (f .ratio .0) .1 (rw (f .across) left)
@@ -33,10 +33,10 @@ module _ (g : Grid) (f : Formed g) (x y : ℕ) (left : x < g .width) (above : y 
   row-in = div-lt-iff-lt-mul {k = g .ratio} {x = y} {y = g .rows} (f .ratio .0) .1 (rw (f .down) above)
 
   pub spot-in : y / g .ratio * g .half + x / g .ratio < g .half * g .rows
-  spot-in = omega (arith, in-rows (y / g .ratio) (x / g .ratio) (g .rows) (g .half) row-in column-in, mul-comm (g .rows) (g .half))
+  spot-in = omega (arith, digits-lt row-in column-in, mul-comm (g .rows) (g .half))
 
   pub pixel-in : y * g .width + x < g .width * g .height
-  pixel-in = omega (arith, in-rows y x (g .height) (g .width) above left, mul-comm (g .height) (g .width))
+  pixel-in = omega (arith, digits-lt above left, mul-comm (g .height) (g .width))
 
 -- what is left at a pixel: (1, 0), or the model that is found
 module _ (parts : Parts) (g : Grid) (f : Formed g) (limit evidence : Float) (strict : Bool) (x y : ℕ) (left : x < g .width) (above : y < g .height)

@@ -3,10 +3,10 @@ use mathlib.Core.Path.{_≡_, refl, sym, _∙_}
 use mathlib.Core.Bool.{Bool}
 use mathlib.Core.Logic.{_⊎_, ⊎-elim}
 use mathlib.Core.List.{List}
-use Prim.Native.Nat.{ℕ, zero, suc, _+_, _*_, _≤_, _<_}
+use Prim.Native.Nat.{ℕ, zero, suc, _*_, _≤_, _<_}
 use native.Mathlib.Nat.{eq-or-lt-of-le, mul-comm}
 use native.Mathlib.Omega.{arith}
-use lib.ListN.{length, getD, set, length-set}
+use lib.ListN.{length, getD, length-set}
 use lib.Seq.{getD-set-same, getD-set-other}
 use lib.Ieee.{Float}
 use Rattle.rules.specs.declared.Found.{Found}
@@ -17,7 +17,7 @@ use Rattle.rules.specs.Window.{window, chromaAt, fitted}
 use Rattle.rules.specs.Assembly.{modelSlice}
 use Rattle.offsets.specs.declared.Grid.{Grid}
 use Rattle.table.specs.Models.{modelAt}
-use Rattle.table.proofs.Lists.{table-same}
+use Rattle.laws.proofs.Lists.{table-same}
 use Rattle.table.proofs.Models.{put-same, put-other}
 use Rattle.table.proofs.Turns.{scan-flat}
 use Rattle.rough.specs.Search.{flagOf, search, searchAt, Searched}

@@ -2,8 +2,8 @@
 use mathlib.Core.Path.{_≡_}
 use mathlib.Core.Bool.{Bool}
 use mathlib.Core.List.{List}
-use Prim.Native.Nat.{ℕ, _+_, _*_, _≤_, _<_}
-use lib.ListN.{length, getD, set}
+use Prim.Native.Nat.{ℕ, _+_, _*_}
+use lib.ListN.{length, set}
 use lib.Ieee.{Float}
 use Rattle.rules.specs.declared.Found.{Found}
 use Rattle.rules.specs.declared.Found.the-variants.{At, Nothing}

@@ -6,7 +6,7 @@ use Prim.Native.Nat.{ℕ, suc, _-_, _*_, _/_, _^_, _≤_, _<_, min, zero-le}
 use native.Mathlib.Nat.{lt-of-le-of-lt, div-lt-iff-lt-mul}
 use native.Mathlib.Omega.{arith}
 use lib.IntN.{pos}
-use lib.Dec.{T, ltb, leb, lt→ltb, le→leb, nltb→le}
+use lib.Dec.{T, ltb, lt→ltb, le→leb, nltb→le}
 use lib.Ieee.{Float, nan, inf, fin, binary32, up, down, lt, le, add, sub, ofInt, ofBits, toUnsigned, inUnsigned}
 use lib.Ieee.Fits.{down-pos}
 use Rattle.rules.specs.Literals.{0·0}

@@ -4,7 +4,7 @@ ghost use mathlib.Core.Path.{_≡_};
 ghost use mathlib.Core.Bool.{cond};
 ghost use Prim.Native.Nat.{_+_, _-_, _*_, _<_, _≤_, min};
 ghost use lib.ListN.{length};
-ghost use Rattle.rules.specs.Float.{float, cut, mix, _⊕_};
+ghost use Rattle.rules.specs.Float.{float, cut, _⊕_};
 ghost use Rattle.rules.specs.Reading.{at as atOf, sample as sampleOf};
 ghost use Rattle.sample.specs.Points.{positiveOf, PlaneFits, Held, Within, around, sampledRow, sampledAt};
 

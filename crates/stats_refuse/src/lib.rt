@@ -2,7 +2,6 @@
 use motion::Grid;
 ghost use mathlib.Core.Path.{_≡_};
 ghost use mathlib.Core.Bool.{_&&_, true};
-ghost use Prim.Native.Nat.{_-_};
 ghost use Rattle.rules.specs.Domain.{isPitch, isPlane};
 ghost use Rattle.rules.specs.Refusals.{statsRefusal};
 ghost use Rattle.motion.specs.Moves.{motionOf};
@@ -104,7 +103,7 @@ pub fn stats_refusal(
         across,
         down,
     );
-    let sums = limits::exact_three(
+    let sums = plane::exact_planes(
         luma.len(),
         chroma1.len(),
         chroma2.len(),

@@ -1,15 +1,16 @@
 -- The entries of planes 1 and 2. Assumes nothing.
-use mathlib.Core.Path.{_≡_, refl}
-use mathlib.Core.Bool.{Bool, true, false, cond, _&&_, false≢true}
+use mathlib.Core.Path.{_≡_}
+use mathlib.Core.Bool.{Bool, true, cond, _&&_}
 use mathlib.Core.List.{List}
-use Prim.Native.Nat.{ℕ, zero, suc, _+_, _-_, _*_, _≤_, _<_, _^_}
+use Prim.Native.Nat.{ℕ, zero, suc, _+_, _-_, _*_, _≤_, _<_}
 use native.Mathlib.Nat.{mul-comm, eq-or-lt-of-le}
 use native.Mathlib.Omega.{arith}
 use mathlib.Core.Logic.{_⊎_, inl, inr, ⊎-elim}
 use borrow.Author.Tests.{lt-ltb, le-ltb, leb-true, ne-eqb}
+use lib.Arith.{digits-div, digits-lt, digits-mod}
 use lib.Dec.{ltb, leb}
 use lib.IntN.{ℤ, pos, negsuc, negℤ}
-use lib.ListN.{length, getD}
+use lib.ListN.{getD}
 use lib.Ieee.{Float}
 use mir.Syntax.{w16}
 use mir.Val.{SFits}
@@ -19,7 +20,6 @@ use Rattle.rules.specs.Model.{Fitted}
 use Rattle.rules.specs.Assembly.{modelSlice, chromaTotal, cellEntry}
 use Rattle.offsets.specs.declared.Grid.{Grid}
 use Rattle.offsets.specs.Grid.{Formed, Block, pointFits, fitsBelow}
-use Rattle.table.proofs.Places.{in-rows, row-of, column-of}
 use Rattle.offsets.proofs.Totals.{fits-all}
 use Rattle.laws.proofs.Accepted.{both}
 use Rattle.store.specs.Entries.{Covered, coverLong, tailEntry, chromaEntry, Ready}
@@ -28,7 +28,7 @@ use Rattle.store.specs.Entries.{Covered, coverLong, tailEntry, chromaEnt
 cell-is : (cover : List ℕ) (size : ℕ × ℕ) (half x y : ℕ) → x < half
     → cellEntry cover size half (y * half + x) ≡ pos (cond (ltb x (cells (size .0)) && ltb y (cells (size .1))) (getD cover (y * cells (size .0) + x) 0) 0)
 unfolding cellEntry
-cell-is cover size half x y left = rw (row-of y x half left, column-of y x half left)
+cell-is cover size half x y left = rw (digits-div y left, digits-mod y left)
 
 -- it stands in plane 2
 pub tail-is : (cover : List ℕ) (size : ℕ × ℕ) (half plane x y : ℕ) → (plane ≡ 1 → ⊥) → x < half
@@ -46,7 +46,7 @@ covered g cover f e = record { narrow = few (g .width) (f .wide .1); low = few (
 
 module _ (g : Grid) (x y : ℕ) (left : x < g .half) (above : y < g .rows) where
   pub point-in : y * g .half + x < g .half * g .rows
-  point-in = omega (arith, in-rows y x (g .rows) (g .half) above left, mul-comm (g .rows) (g .half))
+  point-in = omega (arith, digits-lt above left, mul-comm (g .rows) (g .half))
 
   module _ (models : List Fitted) (cover : List ℕ) (plane : ℕ) where
     pub first-is : chromaEntry models cover g plane (y * g .half + x) ≡ chromaTotal models (g .width) (g .ratio) plane (y * g .half + x)
@@ -91,7 +91,7 @@ total-fits g models cover plane x y ready b = go (eq-or-lt-of-le (b .plane-is .1
     k = y * g .half + x
 
     test : pointFits ms (g .width) (g .ratio) k ≡ true
-    test = all-pass (g .rows * g .half) (pointFits ms (g .width) (g .ratio)) (rw (fits-all g (ready .formed) ms) (ready .fits)) k (in-rows y x (g .rows) (g .half) (b .above) (b .left))
+    test = all-pass (g .rows * g .half) (pointFits ms (g .width) (g .ratio)) (rw (fits-all g (ready .formed) ms) (ready .fits)) k (digits-lt (b .above) (b .left))
 
     total : ℕ → ℤ
     total p = chromaTotal ms (g .width) (g .ratio) p k

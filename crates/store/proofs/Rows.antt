@@ -1,8 +1,8 @@
 -- Rows of a layer, one after the other, up to the whole layer. Assumes nothing.
-use mathlib.Core.Path.{_≡_, refl, sym, ap, _∙_}
+use mathlib.Core.Path.{_≡_, sym, _∙_}
 use mathlib.Core.List.{List}
 use Prim.Native.Nat.{ℕ, _+_, _*_, _≤_, _<_}
-use native.Mathlib.Nat.{mul-assoc, mul-comm, mul-le-mul, zero-mul, suc-mul}
+use native.Mathlib.Nat.{mul-assoc, mul-comm, mul-le-mul, mul-le-mul-right, zero-mul, suc-mul}
 use native.Mathlib.Numerals.{add-one}
 use native.Mathlib.Omega.{arith}
 use lib.IntN.{ℤ}
@@ -11,7 +11,6 @@ use Rattle.rules.specs.Model.{Fitted}
 use Rattle.rules.specs.Assembly.{lumaEntry, modelSlice, assembled}
 use Rattle.offsets.specs.declared.Grid.{Grid}
 use Rattle.offsets.specs.Grid.{Formed}
-use Rattle.table.proofs.Places.{row-in}
 use Rattle.table.specs.Filled.{Paired}
 use Rattle.table.proofs.Laws.{paired-none, paired-join, paired-whole}
 use Rattle.store.specs.Entries.{tailEntry, chromaEntry, Room, RowsStored, Stored}
@@ -26,7 +25,7 @@ module _ (g : Grid) (f : Formed g) where
   pixels-small = mul-le-mul (f .wide .1) (f .tall .1)
 
   pub band-in : (y band : ℕ) → band ≡ g .ratio * g .width → y < g .rows → y * band + band ≤ g .width * g .height
-  band-in y band e below = rw e (omega (arith, row-in y (g .rows) (g .ratio * g .width) below, bands))
+  band-in y band e below = rw e (omega (arith, suc-mul y (g .ratio * g .width), mul-le-mul-right (g .ratio * g .width) below, bands))
 
 -- ---- rows stored
 

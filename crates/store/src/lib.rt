@@ -5,7 +5,7 @@ ghost use mathlib.Core.Path.{_≡_};
 ghost use mathlib.Core.Bool.{cond, _&&_};
 ghost use Prim.Native.Nat.{_+_, _*_, _<_, _≤_};
 ghost use lib.Dec.{ltb};
-ghost use lib.ListN.{length, getD, set};
+ghost use lib.ListN.{getD, set};
 ghost use Rattle.rules.specs.Assembly.{storedGain, lumaEntry, modelSlice, assembled};
 ghost use Rattle.offsets.specs.Grid.{Formed, Block};
 ghost use Rattle.table.specs.Filled.{Paired};

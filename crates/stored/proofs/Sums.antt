@@ -1,21 +1,21 @@
 -- Stored gains are added as whole numbers: their total as a float is the total of the floats. Assumes nothing.
-use mathlib.Core.Path.{_≡_, refl, sym, ap, _∙_}
+use mathlib.Core.Path.{_≡_, refl, sym, _∙_}
 use mathlib.Core.Bool.{Bool, true, false, cond}
 use mathlib.Core.List.{List}
 use Prim.Native.Nat.{ℕ, suc, _+_, _-_, _*_, _^_, _≤_, _<_}
-use native.Mathlib.Nat.{le-trans, zero-add, suc-mul}
+use native.Mathlib.Nat.{le-trans}
 use native.Mathlib.Numerals.{add-one}
 use native.Mathlib.Omega.{arith}
 use lib.Dec.{T, ltb, ltb→lt, lit≤}
 use lib.IntN.{ℤ, pos, negsuc, natAbs, subℕ, _+ℤ_}
 use lib.Signed.{mag, natAbs-le}
 use lib.ListN.{getD}
-use lib.Ieee.{Float, binary32, ofBits, ofInt}
+use lib.Ieee.{binary32, ofBits, ofInt}
 use mir.Syntax.{w32}
 use mir.Val.{SFits}
 use Rattle.rules.specs.Forms.{turns}
 use Rattle.rules.specs.Literals.{0·0}
-use Rattle.rules.specs.Float.{_⊕_, signed}
+use Rattle.rules.specs.Float.{signed}
 use Rattle.laws.proofs.Whole.{add-int}
 use Rattle.stored.specs.Stored.{rowTotal, blockTotal, RowSummed, BlockSummed}
 

@@ -2,8 +2,8 @@
 use lent::Plan;
 use rules::Offset;
 ghost use mathlib.Core.Path.{_≡_};
-ghost use Prim.Native.Nat.{_+_, _*_, _<_, _≤_};
-ghost use lib.IntN.{pos, natAbs};
+ghost use Prim.Native.Nat.{_+_, _<_, _≤_};
+ghost use lib.IntN.{natAbs};
 ghost use Rattle.lent.specs.Lent.{lent, lay, lumaLong, Planned, Sound, Inside};
 ghost use Rattle.stored.specs.Stored.{RowFits, RowSummed, BlockSummed, Summed, offsetAt};
 

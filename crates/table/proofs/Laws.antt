@@ -1,5 +1,5 @@
 -- A table is filled entry by entry, in any order. Assumes nothing.
-use mathlib.Core.Path.{_≡_, refl, sym, ap, _∙_, subst}
+use mathlib.Core.Path.{_≡_, refl, _∙_}
 use mathlib.Core.Logic.{_⊎_, inl, inr, ⊎-elim}
 use mathlib.Core.Bool.{Bool, true, false}
 use mathlib.Core.List.{List}
@@ -9,11 +9,11 @@ use native.Mathlib.Omega.{arith}
 use borrow.Author.Tests.{ltb-true, ltb-false, eqb-true, eqb-false}
 use lib.Dec.{ltb, eqb}
 use lib.IntN.{ℤ, pos}
-use lib.ListN.{length, getD, set, length-set}
-use lib.Seq.{getD-set-same, getD-set-other, set-out}
+use lib.ListN.{length, set, length-set}
+use lib.Seq.{getD-set-same, getD-set-other}
 use Rattle.rules.specs.Forms.{tabulate}
 use Rattle.table.specs.Filled.{Filled, entryOf, Paired}
-use Rattle.table.proofs.Lists.{list-is}
+use Rattle.laws.proofs.Lists.{is-table}
 
 -- ---- one stretch, of any table
 
@@ -96,7 +96,7 @@ paired-join {half = half} {mid = mid} a b =
 
 -- all of them: the slice is the table
 pub paired-whole : {f : ℕ → ℤ} {half : ℕ} {before after : List ℤ} → Paired f half 0 half before after → length after ≡ 2 * half → after ≡ tabulate (2 * half) f
-paired-whole {f} {half} {before} {after} done e = list-is (pos 0) after (2 * half) f e (λ k h. ⊎-elim (λ b. done .first k (omega arith) b) (λ b. upper k b h) (order k half))
+paired-whole {f} {half} {before} {after} done e = is-table (2 * half) f after (pos 0) e (λ k h. ⊎-elim (λ b. done .first k (omega arith) b) (λ b. upper k b h) (order k half))
   where
     upper : (k : ℕ) → half ≤ k → k < 2 * half → entryOf after k ≡ f k
     upper k low high =

@@ -1,7 +1,6 @@
 // Tables: slices of which each entry is a function of its place, and their lengths.
 ghost use mathlib.Core.Path.{_≡_};
-ghost use mathlib.Core.Bool.{_&&_};
-ghost use Prim.Native.Nat.{_+_, _*_, _/_, _<_, _≤_};
+ghost use Prim.Native.Nat.{_+_, _*_, _<_, _≤_};
 ghost use lib.Dec.{eqb};
 ghost use lib.ListN.{length, set};
 ghost use Rattle.rules.specs.Forms.{cells as cellsOf};
@@ -14,53 +13,11 @@ pub fn cells(n: usize) -> usize
     if n % 8 == 0 { n / 8 } else { n / 8 + 1 }
 }
 
-// A slice of this length has exactly so many entries for each place of so many rows. No product is made.
-pub fn exact(size: usize, many: usize, width: usize, height: usize) -> bool
-    requires { ⌜ 0 < many ⌝ }
-    ensures { λ r. ⌜ r ≡ eqb size (many * (width * height)) ⌝ }
-{
-    let part = size / many;
-    plane::all(
-        plane::divides(many, size),
-        plane::holds(part, width, height, 0),
-        !plane::holds(part, width, height, 1),
-    )
-}
-
-// Three slices of these lengths have so many entries per luma pixel, and two per chroma pixel.
-pub fn exact_planes(
-    luma: usize,
-    chroma1: usize,
-    chroma2: usize,
-    many: usize,
-    width: usize,
-    height: usize,
-    ratio: usize,
-) -> bool
-    requires { ⌜ 0 < many ⌝ }
-    ensures { λ r. ⌜ r ≡ (eqb luma (many * (width * height)) && eqb chroma1 (2 * (width / ratio * (height / ratio))) && eqb chroma2 (2 * (width / ratio * (height / ratio)))) ⌝ }
-{
-    let half = plane::divided(width, ratio);
-    let rows = plane::divided(height, ratio);
-    plane::all(
-        exact(luma, many, width, height),
-        exact(chroma1, 2, half, rows),
-        exact(chroma2, 2, half, rows),
-    )
-}
-
-// A slice of this length has a byte for each pixel.
-pub fn exact_pixels(size: usize, width: usize, height: usize) -> bool
-    ensures { λ r. ⌜ r ≡ eqb size (width * height) ⌝ }
-{
-    exact(size, 1, width, height)
-}
-
 // A cover of this length has a byte for each cell.
 pub fn exact_cover(size: usize, width: usize, height: usize) -> bool
     ensures { λ r. ⌜ r ≡ eqb size (cellsOf width * cellsOf height) ⌝ }
 {
-    exact_pixels(size, cells(width), cells(height))
+    plane::is_product(size, cells(width), cells(height))
 }
 
 // Entry k of the first half of a slice, and of its second.

@@ -1,15 +1,15 @@
 -- A list that is stored entry by entry is the table of what is stored; what is not yet stored is as it was.
 -- Assumes nothing.
-use mathlib.Core.Path.{_≡_, refl, sym, _∙_}
+use mathlib.Core.Path.{_≡_, refl, _∙_}
 use mathlib.Core.Logic.{⊎-elim}
 use mathlib.Core.List.{List}
 use Prim.Native.Nat.{ℕ, zero, suc, _≤_, _<_}
 use native.Mathlib.Nat.{eq-or-lt-of-le}
 use native.Mathlib.Omega.{arith}
 use lib.ListN.{length, getD, set, length-set}
-use lib.Seq.{getD-set-same, getD-set-other, ext-getD}
+use lib.Seq.{getD-set-same, getD-set-other}
 use Rattle.rules.specs.Forms.{turns, tabulate}
-use Rattle.laws.proofs.Lists.{length-tabulate, getD-tabulate}
+use Rattle.laws.proofs.Lists.{is-table}
 use Rattle.tables.specs.Filled.{filled}
 
 module _ {A : Type 0} (f : ℕ → A) (old : List A) where
@@ -45,5 +45,4 @@ module _ {A : Type 0} (f : ℕ → A) (old : List A) where
   -- the whole list
   pub filled-all : A → (n : ℕ) → length old ≡ n → filled n f old ≡ tabulate n f
   filled-all d n e =
-      ext-getD d (filled n f old) (tabulate n f) (filled-length n ∙ e ∙ sym (length-tabulate n f))
-      (λ k h. let l : k < n = rw (← e, ← (filled-length n)) h in filled-before n k d l (omega arith) ∙ sym (getD-tabulate n f k d l))
+      is-table n f (filled n f old) d (filled-length n ∙ e) (λ k h. filled-before n k d h (omega arith))

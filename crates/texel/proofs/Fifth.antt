@@ -32,6 +32,10 @@ pub scale-one : float 1 ⊗ 4096·0 ≡ 4096·0
 unfolding ofInt ofBits mul
 scale-one = refl
 
+pub scale-four : float 4 ⊗ 4096·0 ≡ ofBits binary32 0x46800000
+unfolding ofInt ofBits mul
+scale-four = refl
+
 -- ---- a quotient by 2 ^ k
 
 div-at : (k : ℕ) (x : Float) (s : Bool) (a : ℕ) → HasValue x s a 1 → x ⊘ fin false 1 (pos k) ≡ round binary32 s a (2 ^ k)

@@ -12,16 +12,18 @@ ghost use Rattle.lent.specs.Lent.{lent, lay, Sound, Inside};
 ghost use Rattle.stored.specs.Stored.{gainBy, Summed};
 ghost use Rattle.texel.specs.Least.{leastOf};
 
-// A gain, of the total of span² stored gains. Luma's divisor is a constant.
+// A gain, of the total of span² stored gains. The common divisors are constants, powers of two.
 pub fn gain_of(total: i32, span: usize) -> f32
     requires { ⌜ (natAbs total ≤ 524288) × (span ≤ 4) ⌝ }
     ensures { λ r. ⌜ r ≡ gainBy span total ⌝ }
 {
     if span == 1 {
-        total as f32 / 4096.0
-    } else {
-        total as f32 / (float::of_size(span * span) * 4096.0)
+        return total as f32 / 4096.0;
     }
+    if span == 2 {
+        return total as f32 / 16384.0;
+    }
+    total as f32 / (float::of_size(span * span) * 4096.0)
 }
 
 // An offset, of a stored one.

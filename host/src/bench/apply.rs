@@ -1,7 +1,9 @@
 use std::hint::black_box;
+use std::mem::swap;
 
-use super::scene::partly_moved;
+use super::scene::{partly_moved, Marked};
 use super::{Sides, Workload};
+use crate::check::apply::Apply as Lent;
 use crate::{ffi, oracle};
 
 pub const WORKLOADS: &[Workload] = &[
@@ -17,19 +19,15 @@ pub const WORKLOADS: &[Workload] = &[
     },
 ];
 
+pub const STEPS: &[Workload] = at_steps!("apply", marked);
+
+/// What both sides are lent, with our output in it; and the Rust's output.
 struct Apply {
-    first: Vec<u8>,
-    second: Vec<u8>,
-    width: usize,
-    height: usize,
-    still: Vec<u8>,
-    still_width: usize,
-    ours: Vec<u8>,
+    lent: Lent,
     rust: Vec<u8>,
 }
 
 fn moving(width: usize, height: usize, step: usize) -> Box<dyn Sides> {
-    let (first, second) = partly_moved(width, height);
     let (wide, high) = (width * step, height * step);
     let (a, b) = partly_moved(wide, high);
     let still = oracle::still::mask(
@@ -40,54 +38,50 @@ fn moving(width: usize, height: usize, step: usize) -> Box<dyn Sides> {
         high,
         oracle::still::limits(None, None, None),
     );
+    applied(width, height, still, wide)
+}
+
+pub fn marked(size: (usize, usize), step: (usize, usize), part: Marked) -> Box<dyn Sides> {
+    let still = part.mask(size, step, 1);
+    applied(size.0, size.1, still, size.0 * step.0)
+}
+
+fn applied(width: usize, height: usize, still: Vec<u8>, still_width: usize) -> Box<dyn Sides> {
+    let (first, second) = partly_moved(width, height);
+    let output = vec![0; first.len()];
     Box::new(Apply {
-        ours: vec![0; first.len()],
-        rust: vec![0; first.len()],
-        first,
-        second,
-        width,
-        height,
-        still,
-        still_width: wide,
+        lent: Lent {
+            output: output.clone(),
+            output_pitch: width,
+            first,
+            second,
+            pitch: width,
+            width,
+            height,
+            still,
+            still_width,
+            time: 0.4,
+        },
+        rust: output,
     })
 }
 
 impl Sides for Apply {
     fn pixels(&self) -> usize {
-        self.width * self.height
+        self.lent.width * self.lent.height
     }
 
     fn ours(&mut self) {
-        black_box(ffi::apply::call(
-            black_box(&mut self.ours),
-            self.width,
-            black_box(&self.first),
-            black_box(&self.second),
-            self.width,
-            self.width,
-            self.height,
-            black_box(&self.still),
-            self.still_width,
-            0.4,
-        ));
+        black_box(black_box(&mut self.lent).put_to(ffi::apply::call));
     }
 
     fn rust(&mut self) {
-        oracle::still::apply(
-            black_box(&mut self.rust),
-            self.width,
-            black_box(&self.first),
-            black_box(&self.second),
-            self.width,
-            self.width,
-            self.height,
-            black_box(&self.still),
-            self.still_width,
-            0.4,
-        );
+        swap(&mut self.lent.output, &mut self.rust);
+        black_box(&mut self.lent).put_to(oracle::still::apply);
+        swap(&mut self.lent.output, &mut self.rust);
     }
 
     fn same(&self) -> bool {
-        self.ours == self.rust
+        self.lent.output == self.rust
     }
 }

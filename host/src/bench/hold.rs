@@ -1,7 +1,9 @@
 use std::hint::black_box;
+use std::mem::swap;
 
-use super::scene::frame;
+use super::scene::{frame, Marked};
 use super::{Sides, Workload};
+use crate::check::hold::Hold as Lent;
 use crate::{ffi, oracle};
 
 pub const WORKLOADS: &[Workload] = &[
@@ -17,13 +19,11 @@ pub const WORKLOADS: &[Workload] = &[
     },
 ];
 
+pub const STEPS: &[Workload] = at_steps!("hold", marked);
+
+/// What both sides are lent, with our output in it; and the Rust's output.
 struct Hold {
-    held: Vec<u8>,
-    width: usize,
-    height: usize,
-    mask: Vec<u8>,
-    mask_width: usize,
-    ours: Vec<u8>,
+    lent: Lent,
     rust: Vec<u8>,
 }
 
@@ -31,50 +31,48 @@ struct Hold {
 fn soft(width: usize, height: usize, step: usize) -> Box<dyn Sides> {
     let (wide, high) = (width * step, height * step);
     let weight = |at: usize| (at % wide * 400 / wide).min(255);
+    let mask = (0..wide * high).map(|at| 255 - weight(at) as u8).collect();
+    held(width, height, mask, wide)
+}
+
+pub fn marked(size: (usize, usize), step: (usize, usize), part: Marked) -> Box<dyn Sides> {
+    let mask = part.mask(size, step, 255);
+    held(size.0, size.1, mask, size.0 * step.0)
+}
+
+fn held(width: usize, height: usize, mask: Vec<u8>, mask_width: usize) -> Box<dyn Sides> {
     let output = frame(width, height, 5, 4);
     Box::new(Hold {
-        held: frame(width, height, 0, 1),
-        width,
-        height,
-        mask: (0..wide * high).map(|at| 255 - weight(at) as u8).collect(),
-        mask_width: wide,
-        ours: output.clone(),
+        lent: Lent {
+            output: output.clone(),
+            output_pitch: width,
+            held: frame(width, height, 0, 1),
+            held_pitch: width,
+            width,
+            height,
+            mask,
+            mask_width,
+        },
         rust: output,
     })
 }
 
 impl Sides for Hold {
     fn pixels(&self) -> usize {
-        self.width * self.height
+        self.lent.width * self.lent.height
     }
 
     fn ours(&mut self) {
-        black_box(ffi::hold::call(
-            black_box(&mut self.ours),
-            self.width,
-            black_box(&self.held),
-            self.width,
-            self.width,
-            self.height,
-            black_box(&self.mask),
-            self.mask_width,
-        ));
+        black_box(black_box(&mut self.lent).put_to(ffi::hold::call));
     }
 
     fn rust(&mut self) {
-        oracle::still::hold(
-            black_box(&mut self.rust),
-            self.width,
-            black_box(&self.held),
-            self.width,
-            self.width,
-            self.height,
-            black_box(&self.mask),
-            self.mask_width,
-        );
+        swap(&mut self.lent.output, &mut self.rust);
+        black_box(&mut self.lent).put_to(oracle::still::hold);
+        swap(&mut self.lent.output, &mut self.rust);
     }
 
     fn same(&self) -> bool {
-        self.ours == self.rust
+        self.lent.output == self.rust
     }
 }

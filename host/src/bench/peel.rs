@@ -1,84 +1,79 @@
 use std::hint::black_box;
 
-use super::peel_numbers::Peel;
-use super::scene::{Lettering, RATIO};
+use super::scene::{plane, Fitted, Lettering};
 use super::{Sides, Workload};
-use crate::ffi;
+use crate::groups::Form;
+use crate::oracle::layer as rust;
+use crate::PlaneBuf;
 
-pub const WORKLOADS: &[Workload] = &[
-    Workload {
-        call: "peel",
-        name: "a fitted logo, luma",
-        make: |width, height| made(Lettering::Logo, 0, width, height),
-    },
-    Workload {
-        call: "peel",
-        name: "a fitted logo, chroma",
-        make: |width, height| made(Lettering::Logo, 1, width, height),
-    },
-    Workload {
-        call: "peel",
-        name: "every pixel layered, luma",
-        make: |width, height| made(Lettering::All, 0, width, height),
-    },
-    Workload {
-        call: "peel",
-        name: "every ring failing, luma",
-        make: |width, height| made(Lettering::Opaque, 0, width, height),
-    },
-];
+pub const BYTES: &[Workload] = over_layers!(
+    "peel",
+    by_bytes,
+    (Logo, luma),
+    (Logo, chroma),
+    (All, luma),
+    (Opaque, luma)
+);
 
-/// The layer as bytes on our side, as numbers on the Rust's.
-struct PeelBytes {
-    peel: Peel,
-    bytes: [Vec<u8>; 3],
+pub const NUMBERS: &[Workload] = over_layers!(
+    "peel_numbers",
+    by_numbers,
+    (Logo, luma),
+    (Logo, chroma),
+    (All, luma),
+    (All, chroma),
+    (Opaque, luma),
+    (Opaque, chroma)
+);
+
+/// A layer, one plane of a frame under it, and an output for each side.
+struct Peel {
+    layer: Fitted,
+    plane: usize,
+    raw: PlaneBuf,
+    ours: PlaneBuf,
+    rust: PlaneBuf,
 }
 
-fn made(lettering: Lettering, plane: usize, width: usize, height: usize) -> Box<dyn Sides> {
-    let peel = Peel::new(lettering, plane, width, height);
-    let layer = [
-        &peel.layer.luma,
-        &peel.layer.chroma[0],
-        &peel.layer.chroma[1],
-    ];
-    let bytes = layer.map(|slice| {
-        slice
-            .iter()
-            .flat_map(|number| number.to_le_bytes())
-            .collect()
-    });
-    Box::new(PeelBytes { peel, bytes })
+fn by_bytes(layer: Fitted, number: usize) -> Box<dyn Sides> {
+    by_numbers(layer.by_bytes(), number)
 }
 
-impl Sides for PeelBytes {
+fn by_numbers(layer: Fitted, number: usize) -> Box<dyn Sides> {
+    let raw = plane(layer.plane(number), 0, 1);
+    Box::new(Peel {
+        layer,
+        plane: number,
+        ours: raw.clone(),
+        rust: raw.clone(),
+        raw,
+    })
+}
+
+impl Sides for Peel {
     fn pixels(&self) -> usize {
-        self.peel.raw.len()
+        self.raw.bytes().len()
     }
 
     fn ours(&mut self) {
-        let (width, height) = self.peel.size;
-        black_box(ffi::peel::call(
-            black_box(&self.bytes[0]),
-            black_box(&self.bytes[1]),
-            black_box(&self.bytes[2]),
-            width,
-            width / RATIO,
-            width,
-            height,
-            RATIO,
-            self.peel.plane,
-            black_box(&mut self.peel.ours),
-            self.peel.row,
-            black_box(&self.peel.raw),
-            self.peel.row,
-        ));
+        let (plane, raw) = (self.plane, black_box(self.raw.plane()));
+        let output = &mut black_box(self.ours.plane_mut());
+        black_box(match self.layer.bytes() {
+            Some(bytes) => Form::peel(&black_box(bytes), plane, output, raw),
+            None => Form::peel(&black_box(self.layer.numbers()), plane, output, raw),
+        });
     }
 
     fn rust(&mut self) {
-        self.peel.peel_by_rust();
+        let (output, raw) = (
+            black_box(self.rust.plane_mut()),
+            black_box(self.raw.plane()),
+        );
+        let layer = rust::Layer::from(black_box(self.layer.numbers()));
+        layer.peel(self.plane, output.data, output.pitch, raw.into());
     }
 
     fn same(&self) -> bool {
-        self.peel.same()
+        self.ours == self.rust
     }
 }

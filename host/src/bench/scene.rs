@@ -1,7 +1,9 @@
 //! Frames, motion and layers that the workloads are made of: the same at every run.
 
 use crate::check::rng::Rng;
+use crate::groups::LentLayer;
 use crate::oracle::layer as rust;
+use crate::{Channel, Frames, Motion, PlaneBuf, Size};
 
 /// Luma pixels per chroma pixel in all workloads with chroma.
 pub const RATIO: usize = 2;
@@ -19,6 +21,12 @@ pub fn frame(width: usize, height: usize, moved: usize, seed: u64) -> Vec<u8> {
     noise
 }
 
+/// Such a picture as a plane without padding.
+pub fn plane(size: Size, moved: usize, seed: u64) -> PlaneBuf {
+    let bytes = frame(size.width, size.height, moved, seed);
+    PlaneBuf::from_bytes(size, bytes).expect("a size of the table")
+}
+
 /// A picture whose lower right part has moved since the other.
 pub fn partly_moved(width: usize, height: usize) -> (Vec<u8>, Vec<u8>) {
     let (first, moved) = (frame(width, height, 0, 1), frame(width, height, 9, 2));
@@ -30,6 +38,30 @@ pub fn partly_moved(width: usize, height: usize) -> (Vec<u8>, Vec<u8>) {
         }
     }
     (first, second)
+}
+
+/// Which cells of a mask are marked.
+#[derive(Clone, Copy)]
+pub enum Marked {
+    None,
+    /// Those of the left half.
+    Half,
+    All,
+}
+
+impl Marked {
+    /// A mask with so many cells across and down for each pixel of a plane.
+    pub fn mask(self, size: (usize, usize), step: (usize, usize), mark: u8) -> Vec<u8> {
+        let wide = size.0 * step.0;
+        let marked = match self {
+            Marked::None => 0,
+            Marked::Half => wide / 2,
+            Marked::All => wide,
+        };
+        (0..wide * size.1 * step.1)
+            .map(|at| if at % wide < marked { mark } else { 0 })
+            .collect()
+    }
 }
 
 /// What the lettering of a layer is.
@@ -78,15 +110,81 @@ impl Lettering {
     }
 
     /// The layer as the Rust assembles it, distances made.
-    pub fn fitted(self, width: usize, height: usize) -> rust::Fit {
+    pub fn fitted(self, width: usize, height: usize) -> Fitted {
         let mut cover = self.cover(width, height);
         rust::distances(&mut cover, width.div_ceil(8));
-        rust::assemble(
-            (width, height),
-            RATIO,
-            |at| self.model(at, width, height),
-            &cover,
-        )
+        let model = |at| self.model(at, width, height);
+        Fitted {
+            numbers: rust::assemble((width, height), RATIO, model, &cover),
+            bytes: None,
+            size: Size::new(width, height),
+        }
+    }
+}
+
+/// A layer without padding. The Rust reads its numbers; our side is lent the same numbers, or bytes made of them.
+pub struct Fitted {
+    numbers: rust::Fit,
+    bytes: Option<[Vec<u8>; 3]>,
+    pub size: Size,
+}
+
+impl Fitted {
+    /// With bytes for our side.
+    pub fn by_bytes(mut self) -> Self {
+        let bytes = |slice: &Vec<i16>| slice.iter().flat_map(|n| n.to_le_bytes()).collect();
+        let [chroma1, chroma2] = &self.numbers.chroma;
+        self.bytes = Some([&self.numbers.luma, chroma1, chroma2].map(bytes));
+        self
+    }
+
+    pub fn numbers(&self) -> LentLayer<'_, i16> {
+        let [chroma1, chroma2] = &self.numbers.chroma;
+        self.lent(&self.numbers.luma, [chroma1, chroma2])
+    }
+
+    /// Where our side is lent bytes.
+    pub fn bytes(&self) -> Option<LentLayer<'_, u8>> {
+        let [luma, chroma1, chroma2] = self.bytes.as_ref()?;
+        Some(self.lent(luma, [chroma1, chroma2]))
+    }
+
+    fn lent<'a, T>(&self, luma: &'a [T], chroma: [&'a [T]; 2]) -> LentLayer<'a, T> {
+        LentLayer {
+            luma,
+            chroma,
+            pitch: (self.size.width, self.size.width / RATIO),
+            size: self.size,
+            ratio: RATIO,
+        }
+    }
+
+    /// The size of one plane of the frames.
+    pub fn plane(&self, plane: usize) -> Size {
+        self.size.plane_by(Channel::ALL[plane], RATIO)
+    }
+}
+
+/// One plane of two frames, and a time between them.
+pub struct Between {
+    first: PlaneBuf,
+    second: PlaneBuf,
+}
+
+impl Between {
+    pub fn new(size: Size) -> Self {
+        Self {
+            first: plane(size, 0, 5),
+            second: plane(size, 4, 6),
+        }
+    }
+
+    pub fn lent(&self) -> Frames<'_> {
+        Frames {
+            first: self.first.plane(),
+            second: self.second.plane(),
+            time: 0.4,
+        }
     }
 }
 
@@ -105,8 +203,8 @@ pub struct Fields {
 }
 
 impl Fields {
-    pub fn new(moves: Moves, width: usize, height: usize) -> Self {
-        let grid = (width.div_ceil(16), height.div_ceil(16));
+    pub fn new(moves: Moves, size: Size) -> Self {
+        let grid = (size.width.div_ceil(16), size.height.div_ceil(16));
         let mut rng = Rng::of(3, "motion", 0);
         let fields = [6, -3, -6, 3].map(|drift: i64| {
             let mut value = |at: usize| match moves {
@@ -121,9 +219,9 @@ impl Fields {
         Self { fields, grid }
     }
 
-    pub fn rust(&self) -> rust::Motion<'_> {
+    pub fn lent(&self) -> Motion<'_> {
         let [a, b, c, d] = &self.fields;
-        rust::Motion {
+        Motion {
             forward: (a, b),
             backward: (c, d),
             grid: self.grid,

@@ -1,9 +1,9 @@
 use std::hint::black_box;
 
-use super::scene::{frame, Fields, Moves, RATIO};
+use super::scene::{plane, Fields, Moves, RATIO};
 use super::{Sides, Workload};
-use crate::ffi;
 use crate::oracle::layer as rust;
+use crate::{groups, Pair, PlaneBuf, Size};
 
 pub const WORKLOADS: &[Workload] = &[
     Workload {
@@ -24,98 +24,69 @@ pub const WORKLOADS: &[Workload] = &[
 ];
 
 struct Stats {
-    first: [Vec<u8>; 3],
-    second: [Vec<u8>; 3],
-    motion: Fields,
-    size: (usize, usize),
+    pair: Lent,
+    size: Size,
     luma: Vec<f32>,
     chroma: [Vec<f32>; 2],
     rust: Option<rust::Stats>,
 }
 
+/// Two frames and the motion between them.
+struct Lent {
+    first: [PlaneBuf; 3],
+    second: [PlaneBuf; 3],
+    motion: Fields,
+}
+
+impl Lent {
+    fn pair(&self) -> Pair<'_> {
+        Pair {
+            first: self.first.each_ref().map(PlaneBuf::plane),
+            second: self.second.each_ref().map(PlaneBuf::plane),
+            motion: self.motion.lent(),
+        }
+    }
+}
+
 fn made(moves: Moves, width: usize, height: usize) -> Box<dyn Sides> {
+    let (size, half) = (
+        Size::new(width, height),
+        Size::new(width / RATIO, height / RATIO),
+    );
     let planes = |moved, seed| {
-        let chroma = |seed| frame(width / RATIO, height / RATIO, moved / RATIO, seed);
-        [
-            frame(width, height, moved, seed),
-            chroma(seed + 1),
-            chroma(seed + 2),
-        ]
+        let chroma = |seed| plane(half, moved / RATIO, seed);
+        [plane(size, moved, seed), chroma(seed + 1), chroma(seed + 2)]
     };
-    let chroma = vec![0.0; 2 * (width / RATIO) * (height / RATIO)];
+    let chroma = vec![0.0; 2 * half.width * half.height];
     Box::new(Stats {
-        first: planes(0, 1),
-        second: planes(4, 11),
-        motion: Fields::new(moves, width, height),
-        size: (width, height),
+        pair: Lent {
+            first: planes(0, 1),
+            second: planes(4, 11),
+            motion: Fields::new(moves, size),
+        },
+        size,
         luma: vec![0.0; 6 * width * height],
         chroma: [chroma.clone(), chroma],
         rust: None,
     })
 }
 
-/// The Rust's view of a frame.
-fn planes(frame: &[Vec<u8>; 3], width: usize) -> [rust::Plane<'_>; 3] {
-    let pitches = [width, width / RATIO, width / RATIO];
-    [0, 1, 2].map(|at| rust::Plane {
-        data: &frame[at],
-        pitch: pitches[at],
-    })
-}
-
 impl Sides for Stats {
     fn pixels(&self) -> usize {
-        self.size.0 * self.size.1
+        self.size.width * self.size.height
     }
 
     fn ours(&mut self) {
-        let (width, height) = self.size;
-        let half = width / RATIO;
-        let motion = black_box(self.motion.rust());
-        let (first, second) = (black_box(&self.first), black_box(&self.second));
+        let pair = black_box(self.pair.pair());
         let [chroma1, chroma2] = &mut self.chroma;
-        black_box(ffi::stats::call(
-            black_box(&mut self.luma),
-            black_box(chroma1),
-            black_box(chroma2),
-            0,
-            width,
-            height,
-            RATIO,
-            &first[0],
-            width,
-            &first[1],
-            half,
-            &first[2],
-            half,
-            &second[0],
-            width,
-            &second[1],
-            half,
-            &second[2],
-            half,
-            motion.forward.0,
-            motion.forward.1,
-            motion.backward.0,
-            motion.backward.1,
-            motion.grid.0,
-            motion.grid.1,
-            motion.block.0,
-            motion.block.1,
-            motion.origin.0,
-            motion.origin.1,
-            motion.pel,
-        ));
+        let (luma, chroma) = black_box((&mut self.luma, [&mut chroma1[..], chroma2]));
+        black_box(groups::stats(luma, chroma, 0, self.size, RATIO, &pair));
     }
 
     fn rust(&mut self) {
-        let (width, height) = self.size;
-        let pair = rust::Pair {
-            first: planes(black_box(&self.first), width),
-            second: planes(black_box(&self.second), width),
-            motion: black_box(self.motion.rust()),
-        };
-        self.rust = Some(black_box(rust::stats(&[pair], (width, height), RATIO)));
+        let pair = black_box(self.pair.pair()).into();
+        let size = (self.size.width, self.size.height);
+        self.rust = Some(black_box(rust::stats(&[pair], size, RATIO)));
     }
 
     fn same(&self) -> bool {

@@ -1,82 +1,81 @@
 use std::hint::black_box;
 
-use super::scene::{Lettering, RATIO};
-use super::unpeel_numbers::{Unpeel, TIME};
+use super::scene::{plane, Between, Fitted, Lettering};
 use super::{Sides, Workload};
-use crate::ffi;
+use crate::groups::Form;
+use crate::oracle::layer as rust;
+use crate::PlaneBuf;
 
-pub const WORKLOADS: &[Workload] = &[
-    Workload {
-        call: "unpeel",
-        name: "a fitted logo, luma",
-        make: |width, height| made(Lettering::Logo, 0, width, height),
-    },
-    Workload {
-        call: "unpeel",
-        name: "a fitted logo, chroma",
-        make: |width, height| made(Lettering::Logo, 1, width, height),
-    },
-    Workload {
-        call: "unpeel",
-        name: "every pixel layered, luma",
-        make: |width, height| made(Lettering::All, 0, width, height),
-    },
-];
+pub const BYTES: &[Workload] = over_layers!(
+    "unpeel",
+    by_bytes,
+    (Logo, luma),
+    (Logo, chroma),
+    (All, luma)
+);
 
-/// The layer as bytes on our side, as numbers on the Rust's.
-struct UnpeelBytes {
-    unpeel: Unpeel,
-    bytes: [Vec<u8>; 3],
+pub const NUMBERS: &[Workload] = over_layers!(
+    "unpeel_numbers",
+    by_numbers,
+    (Logo, luma),
+    (Logo, chroma),
+    (All, luma),
+    (All, chroma)
+);
+
+fn by_bytes(layer: Fitted, plane: usize) -> Box<dyn Sides> {
+    by_numbers(layer.by_bytes(), plane)
 }
 
-fn made(lettering: Lettering, plane: usize, width: usize, height: usize) -> Box<dyn Sides> {
-    let unpeel = Unpeel::new(lettering, plane, width, height);
-    let layer = [
-        &unpeel.layer.luma,
-        &unpeel.layer.chroma[0],
-        &unpeel.layer.chroma[1],
-    ];
-    let bytes = layer.map(|slice| {
-        slice
-            .iter()
-            .flat_map(|number| number.to_le_bytes())
-            .collect()
-    });
-    Box::new(UnpeelBytes { unpeel, bytes })
+fn by_numbers(layer: Fitted, plane: usize) -> Box<dyn Sides> {
+    Box::new(Unpeel::new(layer, plane))
 }
 
-impl Sides for UnpeelBytes {
+/// A layer, one plane of two frames, and an output for each side.
+pub struct Unpeel {
+    pub layer: Fitted,
+    pub plane: usize,
+    pub frames: Between,
+    pub ours: PlaneBuf,
+    pub rust: PlaneBuf,
+}
+
+impl Unpeel {
+    pub fn new(layer: Fitted, number: usize) -> Self {
+        let size = layer.plane(number);
+        let between = plane(size, 2, 7);
+        Self {
+            layer,
+            plane: number,
+            frames: Between::new(size),
+            ours: between.clone(),
+            rust: between,
+        }
+    }
+}
+
+impl Sides for Unpeel {
     fn pixels(&self) -> usize {
-        self.unpeel.first.len()
+        self.ours.bytes().len()
     }
 
     fn ours(&mut self) {
-        let (width, height) = self.unpeel.size;
-        black_box(ffi::unpeel::call(
-            black_box(&self.bytes[0]),
-            black_box(&self.bytes[1]),
-            black_box(&self.bytes[2]),
-            width,
-            width / RATIO,
-            width,
-            height,
-            RATIO,
-            self.unpeel.plane,
-            black_box(&mut self.unpeel.ours),
-            self.unpeel.row,
-            black_box(&self.unpeel.first),
-            self.unpeel.row,
-            black_box(&self.unpeel.second),
-            self.unpeel.row,
-            TIME,
-        ));
+        let (plane, frames) = (self.plane, black_box(self.frames.lent()));
+        let output = &mut black_box(self.ours.plane_mut());
+        black_box(match self.layer.bytes() {
+            Some(bytes) => Form::unpeel(&black_box(bytes), plane, output, frames),
+            None => Form::unpeel(&black_box(self.layer.numbers()), plane, output, frames),
+        });
     }
 
     fn rust(&mut self) {
-        self.unpeel.unpeel_by_rust();
+        let frames = black_box(self.frames.lent()).into();
+        let output = black_box(self.rust.plane_mut());
+        let layer = rust::Layer::from(black_box(self.layer.numbers()));
+        layer.unpeel(self.plane, output.data, output.pitch, &frames);
     }
 
     fn same(&self) -> bool {
-        self.unpeel.same()
+        self.ours == self.rust
     }
 }

@@ -1,6 +1,8 @@
-//! `cargo run --release --bin scale -- [--minutes N]`: the differential comparison at length, with fresh seeds.
+//! `cargo run --release --bin scale -- [--minutes N] [--cases N] [--seed N] [--calls NAME,NAME]`: the differential
+//! comparison at length.
 //!
-//! `SAFETEAL_CALLS` names the calls, with commas; all are run without it, for equal times by turns.
+//! The calls take turns of at most ten seconds (or of `--cases` cases, and then there is one turn each). A fresh seed is
+//! taken for each round of turns and printed; `--seed` gives the first one, and the others follow from it.
 
 #[cfg(oracle_absent)]
 fn main() {
@@ -8,43 +10,110 @@ fn main() {
 }
 
 #[cfg(not(oracle_absent))]
-fn main() {
-    use safeteal::check::run::{fresh_seed, say, wanted, Tally, Until};
-    use safeteal::check::{Call, CALLS};
+fn main() -> std::process::ExitCode {
+    use safeteal::check::run::{say, Tally, Until};
+    use safeteal::check::table::table;
+    use std::process::ExitCode;
     use std::time::{Duration, Instant};
 
-    let words: Vec<String> = std::env::args().collect();
-    let minutes = words.iter().skip_while(|word| *word != "--minutes").nth(1);
-    let minutes: f64 = minutes.map_or(1.0, |number| {
-        number.parse().expect("--minutes takes a number")
-    });
-    let calls: Vec<&Call> = CALLS.iter().filter(|call| wanted(call.name)).collect();
+    let options = match options::read(std::env::args().skip(1)) {
+        Ok(options) => options,
+        Err(words) => {
+            eprintln!("scale: {words}");
+            return ExitCode::from(2);
+        }
+    };
+    let calls = options.calls;
     let mut tallies = vec![Tally::default(); calls.len()];
-    let all = Duration::from_secs_f64(minutes * 60.0);
+    let all = Duration::from_secs_f64(options.minutes * 60.0);
+    let turn = match options.cases {
+        Some(cases) => Until::Cases(cases),
+        // Short turns, so that every call has had its share whenever the run is ended.
+        None => Until::Time((all / calls.len() as u32).min(Duration::from_secs(10))),
+    };
     let start = Instant::now();
-    // Turns of at most ten seconds, so that every call has had its share whenever the run is ended.
-    let turn = (all / calls.len().max(1) as u32).min(Duration::from_secs(10));
-    let mut seed = fresh_seed();
-    while start.elapsed() < all {
+    let (mut seed, mut seeds) = (options.seed, Vec::new());
+    loop {
+        seeds.push(seed);
         say(&format!("seed {seed}"));
         for (call, tally) in calls.iter().zip(&mut tallies) {
-            match call.run(seed, Until::Time(turn)) {
+            match call.run(seed, turn) {
                 Ok(one) => tally.add(&one),
                 Err(words) => {
                     println!("{words}");
-                    std::process::exit(1);
+                    return ExitCode::FAILURE;
                 }
             }
         }
+        let elapsed = start.elapsed();
+        let cases: u64 = tallies.iter().map(Tally::cases).sum();
+        say(&format!(
+            "{cases} cases equal, {:.0} a second, after {:.0} s",
+            cases as f64 / elapsed.as_secs_f64(),
+            elapsed.as_secs_f64()
+        ));
+        if options.cases.is_some() || elapsed >= all {
+            break;
+        }
         seed = seed.wrapping_add(1_000_003);
     }
-    println!("| Call | Cases | Cases a second | Accepted | Refused | Counted |\n|---|---|---|---|---|---|");
-    for (call, tally) in calls.iter().zip(&tallies) {
-        let (cases, accepted) = (tally.cases(), tally.by_number[0]);
-        let (rate, refused) = (tally.rate(), cases - accepted);
-        println!(
-            "| {} | {cases} | {rate:.0} | {accepted} | {refused} | {} |",
-            call.name, tally.counted
-        );
+    println!("seeds {seeds:?}, every case equal\n");
+    let names = calls.iter().map(|call| call.name);
+    print!("{}", table(names.zip(&tallies)));
+    ExitCode::SUCCESS
+}
+
+#[cfg(not(oracle_absent))]
+mod options {
+    use safeteal::check::run::fresh_seed;
+    use safeteal::check::{Call, CALLS};
+
+    pub struct Options {
+        pub minutes: f64,
+        pub cases: Option<u64>,
+        pub seed: u64,
+        pub calls: Vec<&'static Call>,
+    }
+
+    /// Reads the words after the command's name, or says what is wrong with them.
+    pub fn read(mut words: impl Iterator<Item = String>) -> Result<Options, String> {
+        let mut options = Options {
+            minutes: 1.0,
+            cases: None,
+            seed: fresh_seed(),
+            calls: CALLS.iter().collect(),
+        };
+        while let Some(word) = words.next() {
+            let value = words.next().ok_or(format!("{word} needs a value"))?;
+            let wrong = |what: &str| format!("{word} takes {what}, not {value:?}");
+            match word.as_str() {
+                "--minutes" => {
+                    let minutes = value.parse().ok().filter(|m: &f64| (0.0..1e6).contains(m));
+                    options.minutes = minutes.ok_or_else(|| wrong("a number of minutes"))?;
+                }
+                "--cases" => {
+                    let cases = value.parse().map_err(|_| wrong("a whole number"))?;
+                    options.cases = Some(cases);
+                }
+                "--seed" => options.seed = value.parse().map_err(|_| wrong("a whole number"))?,
+                "--calls" => options.calls = named(&value)?,
+                _ => {
+                    return Err(format!(
+                    "there is no option {word:?}: there are --minutes, --cases, --seed and --calls"
+                ))
+                }
+            }
+        }
+        Ok(options)
+    }
+
+    fn named(list: &str) -> Result<Vec<&'static Call>, String> {
+        let call = |name: &str| {
+            let found = CALLS.iter().find(|call| call.name == name);
+            let names: Vec<&str> = CALLS.iter().map(|call| call.name).collect();
+            found
+                .ok_or_else(|| format!("there is no call {name:?}; there are {}", names.join(", ")))
+        };
+        list.split(',').map(call).collect()
     }
 }

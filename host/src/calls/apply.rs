@@ -1,5 +1,5 @@
 use crate::answer::done;
-use crate::{ffi, Mask, PlaneMut, Refusal, Size};
+use crate::{ffi, Error, Mask, Plane, PlaneMut, Size};
 
 /// Mixes two planes of one pitch by time, where more than four tenths of the mask's cells under a pixel stand still.
 ///
@@ -11,12 +11,12 @@ use crate::{ffi, Mask, PlaneMut, Refusal, Size};
 /// let plane = PlaneMut { data: &mut output, pitch: 2 };
 /// apply(plane, &[10, 10], &[20, 20], 2, Size::new(2, 1), still, 0.5)?;
 /// assert_eq!(output, [15, 7]);
-/// # Ok::<(), safeteal::Refusal>(())
+/// # Ok::<(), safeteal::Error>(())
 /// ```
 ///
 /// # Errors
-/// [`Refusal::Size`], [`Refusal::Ratio`] for a mask without a whole step of 1 to 8, [`Refusal::Pitch`],
-/// [`Refusal::Length`], [`Refusal::Setting`] for the time.
+/// `Refusal::Size`, `Refusal::Ratio` for a mask without a whole step of 1 to 8, `Refusal::Pitch`,
+/// `Refusal::Length`, `Refusal::Setting` for the time.
 pub fn apply(
     output: PlaneMut<'_>,
     first: &[u8],
@@ -25,8 +25,8 @@ pub fn apply(
     size: Size,
     still: Mask<'_>,
     time: f32,
-) -> Result<(), Refusal> {
-    done(ffi::apply::call(
+) -> Result<(), Error> {
+    let word = ffi::apply::call(
         output.data,
         output.pitch,
         first,
@@ -37,7 +37,17 @@ pub fn apply(
         still.data,
         still.width,
         time,
-    ))
+    );
+    let [first, second] = [first, second].map(|data| Plane { data, pitch });
+    done("apply", word, |search| {
+        search
+            .size(size)
+            .mask(still, size)
+            .output(&output, size)
+            .plane(["pitch", "first"], first, size)
+            .plane(["pitch", "second"], second, size)
+            .time(time)
+    })
 }
 
 #[cfg(test)]

@@ -1,5 +1,5 @@
 use crate::answer::done;
-use crate::{ffi, LayerBuf, LayerMut, Refusal, Size};
+use crate::{ffi, Error, LayerBuf, LayerMut, Ratio, Size};
 
 /// Stores models and a cover as a layer.
 ///
@@ -7,42 +7,53 @@ use crate::{ffi, LayerBuf, LayerMut, Refusal, Size};
 /// for each 8 by 8 cell and is stored as it is: make distances of it first.
 ///
 /// # Errors
-/// [`Refusal::Size`], [`Refusal::Ratio`], [`Refusal::Length`], [`Refusal::ChromaTotal`].
+/// `Refusal::Size`, `Refusal::Ratio`, `Refusal::Length`, `Refusal::ChromaTotal`.
 pub fn assemble(
     size: Size,
-    ratio: usize,
+    ratio: Ratio,
     models: &[f32],
     cover: &[u8],
     layer: LayerMut<'_>,
-) -> Result<(), Refusal> {
+) -> Result<(), Error> {
     let [chroma1, chroma2] = layer.chroma;
     let (width, height) = (size.width, size.height);
-    done(ffi::assemble::call(
-        width, height, ratio, models, cover, layer.luma, chroma1, chroma2,
-    ))
+    let word = ffi::assemble::call(
+        width,
+        height,
+        ratio.number(),
+        models,
+        cover,
+        layer.luma,
+        chroma1,
+        chroma2,
+    );
+    let lengths = [layer.luma.len(), chroma1.len(), chroma2.len()];
+    done("assemble", word, |search| {
+        search
+            .size(size)
+            .ratio(ratio.number(), size)
+            .exactly("models", models.len(), || 4 * width * height)
+            .exactly("cover", cover.len(), || size.cells())
+            .slices(["luma", "chroma[0]", "chroma[1]"], lengths, 2, size, ratio)
+    })
 }
 
 impl LayerBuf {
     /// Stores models and a cover as a new layer, as [`assemble`] does.
     ///
     /// ```
-    /// use safeteal::{LayerBuf, Size};
+    /// use safeteal::{LayerBuf, Ratio, Size};
     ///
     /// let models = [8.0, -1.0 / 128.0, 0.5, 0.0];
-    /// let layer = LayerBuf::assemble(Size::new(1, 1), 1, &models, &[3])?;
+    /// let layer = LayerBuf::assemble(Size::new(1, 1), Ratio::One, &models, &[3])?;
     /// assert_eq!(layer.layer().luma, [32767, -1]);
     /// assert_eq!(layer.layer().chroma, [[32, 0], [0, 3]]);
-    /// # Ok::<(), safeteal::Refusal>(())
+    /// # Ok::<(), safeteal::Error>(())
     /// ```
     ///
     /// # Errors
     /// As [`assemble`].
-    pub fn assemble(
-        size: Size,
-        ratio: usize,
-        models: &[f32],
-        cover: &[u8],
-    ) -> Result<Self, Refusal> {
+    pub fn assemble(size: Size, ratio: Ratio, models: &[f32], cover: &[u8]) -> Result<Self, Error> {
         let mut made = Self::new(size, ratio)?;
         assemble(size, ratio, models, cover, made.layer_mut())?;
         Ok(made)
@@ -52,17 +63,25 @@ impl LayerBuf {
 #[cfg(test)]
 mod tests {
     use super::*;
+    use crate::Refusal;
 
     /// The total stored for four chroma offsets in one block of ratio 2.
     fn total(offsets: [f32; 4]) -> Result<i16, Refusal> {
         let models = offsets.map(|offset| [1.0, 0.0, offset, 0.0]);
-        let layer = LayerBuf::assemble(Size::new(2, 2), 2, models.as_flattened(), &[0])?;
-        Ok(layer.layer().chroma[0][0])
+        let layer = LayerBuf::assemble(Size::new(2, 2), Ratio::Two, models.as_flattened(), &[0]);
+        layer
+            .map(|layer| layer.layer().chroma[0][0])
+            .map_err(|error| error.refusal())
     }
 
     #[test]
     fn p4_and_p5_gains_and_offsets_are_rounded_and_held() {
-        let layer = LayerBuf::assemble(Size::new(1, 1), 1, &[8.0, -1.0 / 128.0, 0.0, 0.0], &[0]);
+        let layer = LayerBuf::assemble(
+            Size::new(1, 1),
+            Ratio::One,
+            &[8.0, -1.0 / 128.0, 0.0, 0.0],
+            &[0],
+        );
         assert_eq!(layer.expect("one pixel").layer().luma, [32767, -1]);
     }
 
@@ -77,7 +96,7 @@ mod tests {
     #[test]
     fn any_bits_are_stored() {
         let models = [f32::NAN, f32::INFINITY, f32::NEG_INFINITY, f32::NAN];
-        let layer = LayerBuf::assemble(Size::new(1, 1), 1, &models, &[255]);
+        let layer = LayerBuf::assemble(Size::new(1, 1), Ratio::One, &models, &[255]);
         let layer = layer.expect("one pixel");
         assert_eq!(layer.layer().luma, [0, 32767]);
         assert_eq!(layer.layer().chroma, [[-32767, 0], [0, 255]]);

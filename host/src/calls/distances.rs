@@ -1,5 +1,5 @@
 use crate::answer::done;
-use crate::{ffi, Refusal};
+use crate::{ffi, Error};
 
 /// Makes distances: in the complete rows of `width` cells, each cell becomes the least of 255 and any cell's number
 /// plus the chessboard distance to it. A tail that fills no row stays.
@@ -10,18 +10,20 @@ use crate::{ffi, Refusal};
 /// let mut cells = [255, 255, 255, 255, 0, 255];
 /// distances(&mut cells, 3)?;
 /// assert_eq!(cells, [1, 1, 1, 1, 0, 1]);
-/// # Ok::<(), safeteal::Refusal>(())
+/// # Ok::<(), safeteal::Error>(())
 /// ```
 ///
 /// # Errors
-/// [`Refusal::Size`] for width 0, and for nothing else.
-pub fn distances(cells: &mut [u8], width: usize) -> Result<(), Refusal> {
-    done(ffi::distances::call(cells, width))
+/// `Refusal::Size` for width 0, and for nothing else.
+pub fn distances(cells: &mut [u8], width: usize) -> Result<(), Error> {
+    let word = ffi::distances::call(cells, width);
+    done("distances", word, |search| search.width(width))
 }
 
 #[cfg(test)]
 mod tests {
     use super::*;
+    use crate::Refusal;
 
     fn made<const N: usize>(mut cells: [u8; N], width: usize) -> [u8; N] {
         distances(&mut cells, width).expect("a width above 0");
@@ -46,6 +48,11 @@ mod tests {
     #[test]
     fn a_width_beyond_the_slice_has_no_complete_row() {
         assert_eq!(made([7, 0], usize::MAX), [7, 0]);
-        assert_eq!(distances(&mut [], 0), Err(Refusal::Size));
+        let error = distances(&mut [], 0).unwrap_err();
+        assert_eq!(error.refusal(), Refusal::Size);
+        assert_eq!(
+            error.to_string(),
+            "distances refused (1): width is 0 and must be at least 1"
+        );
     }
 }

@@ -1,5 +1,5 @@
 use crate::answer::done;
-use crate::{ffi, Mask, Plane, PlaneMut, Refusal, Size};
+use crate::{ffi, Error, Mask, Plane, PlaneMut, Size};
 
 /// Weighs held bytes into the output: where the mask's bytes under a pixel are not all 255, the rest of their weight
 /// goes to the held byte.
@@ -12,19 +12,19 @@ use crate::{ffi, Mask, Plane, PlaneMut, Refusal, Size};
 /// let held = Plane { data: &[200], pitch: 1 };
 /// hold(plane, held, Size::new(1, 1), Mask { data: &[128], width: 1 })?;
 /// assert_eq!(output, [150]);
-/// # Ok::<(), safeteal::Refusal>(())
+/// # Ok::<(), safeteal::Error>(())
 /// ```
 ///
 /// # Errors
-/// [`Refusal::Size`], [`Refusal::Ratio`] for a mask without a whole step of 1 to 8, [`Refusal::Pitch`],
-/// [`Refusal::Length`].
+/// `Refusal::Size`, `Refusal::Ratio` for a mask without a whole step of 1 to 8, `Refusal::Pitch`,
+/// `Refusal::Length`.
 pub fn hold(
     output: PlaneMut<'_>,
     held: Plane<'_>,
     size: Size,
     mask: Mask<'_>,
-) -> Result<(), Refusal> {
-    done(ffi::hold::call(
+) -> Result<(), Error> {
+    let word = ffi::hold::call(
         output.data,
         output.pitch,
         held.data,
@@ -33,12 +33,20 @@ pub fn hold(
         size.height,
         mask.data,
         mask.width,
-    ))
+    );
+    done("hold", word, |search| {
+        search
+            .size(size)
+            .mask(mask, size)
+            .output(&output, size)
+            .plane(["the pitch of held", "held"], held, size)
+    })
 }
 
 #[cfg(test)]
 mod tests {
     use super::*;
+    use crate::Refusal;
 
     fn held(mask: &[u8]) -> Result<u8, Refusal> {
         let mut output = [100];
@@ -58,7 +66,8 @@ mod tests {
                 data: mask,
                 width: 1,
             },
-        )?;
+        )
+        .map_err(|error| error.refusal())?;
         Ok(output[0])
     }
 

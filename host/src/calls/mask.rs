@@ -1,5 +1,5 @@
 use crate::answer::done;
-use crate::{ffi, Refusal, Size};
+use crate::{ffi, Error, Plane, Size};
 
 /// What [`mask`] takes for standing still. Any floats are accepted.
 #[derive(Clone, Copy, Debug)]
@@ -32,11 +32,11 @@ impl Default for Limits {
 /// let mut still = [9; 5];
 /// mask(&first, &second, 5, Size::new(5, 1), Limits::default(), &mut still)?;
 /// assert_eq!(still, [1, 1, 1, 0, 0]);
-/// # Ok::<(), safeteal::Refusal>(())
+/// # Ok::<(), safeteal::Error>(())
 /// ```
 ///
 /// # Errors
-/// [`Refusal::Size`], [`Refusal::Pitch`], [`Refusal::Length`]: `still` is exactly one byte for each pixel.
+/// `Refusal::Size`, `Refusal::Pitch`, `Refusal::Length`: `still` is exactly one byte for each pixel.
 pub fn mask(
     first: &[u8],
     second: &[u8],
@@ -44,14 +44,22 @@ pub fn mask(
     size: Size,
     limits: Limits,
     still: &mut [u8],
-) -> Result<(), Refusal> {
+) -> Result<(), Error> {
     let (width, height) = (size.width, size.height);
     let Limits {
         limit,
         edge,
         tolerance,
     } = limits;
-    done(ffi::mask::call(
+    let word = ffi::mask::call(
         first, second, pitch, width, height, limit, edge, tolerance, still,
-    ))
+    );
+    let [first, second] = [first, second].map(|data| Plane { data, pitch });
+    done("mask", word, |search| {
+        search
+            .size(size)
+            .plane(["pitch", "first"], first, size)
+            .plane(["pitch", "second"], second, size)
+            .exactly("still", still.len(), || width * height)
+    })
 }

@@ -1,11 +1,59 @@
 use crate::answer::counted;
-use crate::{ffi, Channel, LayerBytes, Plane, PlaneMut, Refusal};
+use crate::groups::{Form, LentLayer};
+use crate::{Channel, Error, Layer, LayerBytes, Plane, PlaneMut};
+
+impl Layer<'_> {
+    /// Lifts the lettering off one plane; gives the count of pixels written.
+    ///
+    /// Written are the pixels in cells at distance 0 or 1 (or below) whose gain and offset are not (1, 0), each with
+    /// what was under the lettering in `raw`. All other bytes of `output` stay.
+    ///
+    /// ```
+    /// use safeteal::{Channel, Layer, Plane, PlaneMut, Ratio, Size};
+    ///
+    /// // Gain 2 (8192 / 4096), offset 10 (640 / 64), in a cell at distance 1.
+    /// let (luma, chroma) = ([8192, 640], [0, 1]);
+    /// let layer = Layer {
+    ///     luma: &luma,
+    ///     chroma: [&chroma, &chroma],
+    ///     pitch: (1, 1),
+    ///     size: Size::new(1, 1),
+    ///     ratio: Ratio::One,
+    /// };
+    /// let mut output = [0];
+    /// let raw = Plane { data: &[110], pitch: 1 };
+    /// let count = layer.peel(Channel::Luma, PlaneMut { data: &mut output, pitch: 1 }, raw)?;
+    /// assert_eq!((count, output), (1, [50]));
+    /// # Ok::<(), safeteal::Error>(())
+    /// ```
+    ///
+    /// The output is not the input: this does not compile.
+    ///
+    /// ```compile_fail,E0502
+    /// # use safeteal::{Channel, Frame, LayerBuf};
+    /// fn in_place(layer: &LayerBuf, frame: &mut Frame) -> Result<u64, safeteal::Error> {
+    ///     let output = frame[Channel::Luma].plane_mut();
+    ///     layer.layer().peel(Channel::Luma, output, frame[Channel::Luma].plane())
+    /// }
+    /// ```
+    ///
+    /// # Errors
+    /// `Refusal::Size`, `Refusal::Ratio`, `Refusal::Pitch`, `Refusal::Length`.
+    pub fn peel(
+        &self,
+        channel: Channel,
+        output: PlaneMut<'_>,
+        raw: Plane<'_>,
+    ) -> Result<u64, Error> {
+        peel(&self.lent(), channel, output, raw)
+    }
+}
 
 impl LayerBytes<'_> {
     /// Lifts the lettering off one plane, as [`Layer`](crate::Layer) does; gives the count of pixels written.
     ///
     /// ```
-    /// use safeteal::{Channel, LayerBytes, Plane, PlaneMut, Size};
+    /// use safeteal::{Channel, LayerBytes, Plane, PlaneMut, Ratio, Size};
     ///
     /// // Gain 2 (8192 = 0x2000), offset 10 (640 = 0x0280), distance 1: little-endian.
     /// let (luma, chroma) = ([0x00, 0x20, 0x80, 0x02], [0, 0, 1, 0]);
@@ -14,107 +62,148 @@ impl LayerBytes<'_> {
     ///     chroma: [&chroma, &chroma],
     ///     pitch: (1, 1),
     ///     size: Size::new(1, 1),
-    ///     ratio: 1,
+    ///     ratio: Ratio::One,
     /// };
     /// let mut output = [0];
     /// let raw = Plane { data: &[110], pitch: 1 };
     /// let count = layer.peel(Channel::Luma, PlaneMut { data: &mut output, pitch: 1 }, raw)?;
     /// assert_eq!((count, output), (1, [50]));
-    /// # Ok::<(), safeteal::Refusal>(())
+    /// # Ok::<(), safeteal::Error>(())
     /// ```
     ///
     /// # Errors
-    /// [`Refusal::Size`], [`Refusal::Ratio`], [`Refusal::Pitch`], [`Refusal::Length`].
+    /// `Refusal::Size`, `Refusal::Ratio`, `Refusal::Pitch`, `Refusal::Length`.
     pub fn peel(
         &self,
         channel: Channel,
         output: PlaneMut<'_>,
         raw: Plane<'_>,
-    ) -> Result<u64, Refusal> {
-        counted(ffi::peel::call(
-            self.luma,
-            self.chroma[0],
-            self.chroma[1],
-            self.pitch.0,
-            self.pitch.1,
-            self.size.width,
-            self.size.height,
-            self.ratio,
-            channel.number(),
-            output.data,
-            output.pitch,
-            raw.data,
-            raw.pitch,
-        ))
+    ) -> Result<u64, Error> {
+        peel(&self.lent(), channel, output, raw)
     }
+}
+
+fn peel<T: Form>(
+    layer: &LentLayer<'_, T>,
+    channel: Channel,
+    mut output: PlaneMut<'_>,
+    raw: Plane<'_>,
+) -> Result<u64, Error> {
+    let word = T::peel(layer, channel.number(), &mut output, raw);
+    let size = layer.plane(channel);
+    counted("peel", word, |search| {
+        search
+            .layer(layer)
+            .output(&output, size)
+            .plane(["the pitch of raw", "raw"], raw, size)
+    })
 }
 
 #[cfg(test)]
 mod tests {
     use super::*;
-    use crate::Size;
+    use crate::layer::ONE_OF_GAIN_0;
+    use crate::{Ratio, Refusal, Size};
 
-    /// The byte and the count of a 1 by 1 peel of raw 110 over a byte of 7; a byte is left over in each slice.
-    fn peeled(gain: i16, offset: i16, distance: i16) -> (u8, u64) {
-        let bytes = |first: i16, second: i16| {
-            let [a, b] = first.to_le_bytes();
-            let [c, d] = second.to_le_bytes();
-            [a, b, c, d, 99]
+    /// The byte and the count of a 1 by 1 peel of raw 110 over a byte of 7.
+    fn over_7(
+        peel: impl FnOnce(PlaneMut<'_>, Plane<'_>) -> Result<u64, Error>,
+    ) -> Result<(u8, u64), Refusal> {
+        let (mut output, data, pitch) = ([7], &[110], 1);
+        let plane = PlaneMut {
+            data: &mut output,
+            pitch,
         };
-        let (luma, chroma) = (bytes(gain, offset), bytes(0, distance));
-        let layer = LayerBytes {
+        let count = peel(plane, Plane { data, pitch }).map_err(|error| error.refusal())?;
+        Ok((output[0], count))
+    }
+
+    fn peeled(gain: i16, offset: i16, distance: i16) -> (u8, u64) {
+        let (luma, chroma) = ([gain, offset], [0, distance]);
+        let layer = Layer {
             luma: &luma,
             chroma: [&chroma, &chroma],
             pitch: (1, 1),
             size: Size::new(1, 1),
-            ratio: 1,
+            ratio: Ratio::One,
         };
-        let mut output = [7];
-        let plane = PlaneMut {
-            data: &mut output,
-            pitch: 1,
+        over_7(|output, raw| layer.peel(Channel::Luma, output, raw)).expect("a layer of 1 by 1")
+    }
+
+    fn peeled_by_bytes(luma: &[u8], chroma: &[u8]) -> Result<(u8, u64), Refusal> {
+        let layer = LayerBytes {
+            luma,
+            chroma: [chroma, chroma],
+            pitch: (1, 1),
+            size: Size::new(1, 1),
+            ratio: Ratio::One,
         };
-        let count = layer.peel(
-            Channel::Luma,
-            plane,
-            Plane {
-                data: &[110],
-                pitch: 1,
-            },
-        );
-        (output[0], count.expect("a layer of 1 by 1"))
+        over_7(|output, raw| layer.peel(Channel::Luma, output, raw))
+    }
+
+    /// Two numbers as bytes, and one left over.
+    fn bytes(first: i16, second: i16) -> [u8; 5] {
+        let [a, b] = first.to_le_bytes();
+        let [c, d] = second.to_le_bytes();
+        [a, b, c, d, 99]
     }
 
     #[test]
-    fn p10_to_p12_from_bytes() {
+    fn p10_gain_2_offset_10() {
         assert_eq!(peeled(8192, 640, 1), (50, 1));
         assert_eq!(peeled(8192, 640, 2), (7, 0));
+        assert_eq!(peeled(8192, 640, -5), (50, 1));
+    }
+
+    #[test]
+    fn p11_a_gain_of_819_is_not_lifted() {
         assert_eq!(peeled(819, 0, 1), (110, 1));
+        assert_eq!(peeled(-819, 0, 1), (110, 1));
+    }
+
+    #[test]
+    fn p12_a_gain_of_820_is_lifted() {
         assert_eq!(peeled(820, 0, 1), (255, 1));
-        assert_eq!(peeled(-820, 0, -1), (0, 1));
+        assert_eq!(peeled(-820, 0, 1), (0, 1));
+    }
+
+    #[test]
+    fn gain_1_offset_0_is_passed_over() {
+        assert_eq!(peeled(4096, 0, 0), (7, 0));
+    }
+
+    /// Eight points held into the plane count again where they coincide: 40, and not 33.
+    #[test]
+    fn points_that_coincide_count_again() {
+        let mut raw = [0; 16];
+        raw[4] = 100;
+        let mut output = [0; 16];
+        let plane = PlaneMut {
+            data: &mut output,
+            pitch: 8,
+        };
+        let raw = Plane {
+            data: &raw,
+            pitch: 8,
+        };
+        let count = ONE_OF_GAIN_0.peel(Channel::Luma, plane, raw);
+        assert_eq!(count, Ok(1));
+        assert_eq!(output[0], 40);
+    }
+    #[test]
+    fn p10_to_p12_from_bytes() {
+        let peeled = |gain: i16, offset: i16, distance: i16| {
+            peeled_by_bytes(&bytes(gain, offset), &bytes(0, distance))
+        };
+        assert_eq!(peeled(8192, 640, 1), Ok((50, 1)));
+        assert_eq!(peeled(8192, 640, 2), Ok((7, 0)));
+        assert_eq!(peeled(819, 0, 1), Ok((110, 1)));
+        assert_eq!(peeled(820, 0, 1), Ok((255, 1)));
+        assert_eq!(peeled(-820, 0, -1), Ok((0, 1)));
     }
 
     #[test]
     fn three_bytes_are_one_number() {
-        let layer = LayerBytes {
-            luma: &[0, 0, 0],
-            chroma: [&[0; 4], &[0; 4]],
-            pitch: (1, 1),
-            size: Size::new(1, 1),
-            ratio: 1,
-        };
-        let plane = PlaneMut {
-            data: &mut [7],
-            pitch: 1,
-        };
-        let count = layer.peel(
-            Channel::Luma,
-            plane,
-            Plane {
-                data: &[110],
-                pitch: 1,
-            },
-        );
-        assert_eq!(count, Err(Refusal::Length));
+        assert_eq!(peeled_by_bytes(&[0, 0, 0], &[0; 4]), Err(Refusal::Length));
     }
 }

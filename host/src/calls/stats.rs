@@ -1,5 +1,17 @@
 use crate::answer::done;
-use crate::{ffi, Pair, Refusal, Size, Sums};
+use crate::{groups, Channel, Error, Pair, Ratio, Size, Sums};
+
+/// The names of each plane's pitch and slice.
+const FIRST: [[&str; 2]; 3] = [
+    ["the pitch of first[0]", "first[0]"],
+    ["the pitch of first[1]", "first[1]"],
+    ["the pitch of first[2]", "first[2]"],
+];
+const SECOND: [[&str; 2]; 3] = [
+    ["the pitch of second[0]", "second[0]"],
+    ["the pitch of second[1]", "second[1]"],
+    ["the pitch of second[2]", "second[2]"],
+];
 
 /// Adds one pair of frames to sums that hold `pairs` already; with 0 pairs it starts from 0, whatever the slices hold.
 ///
@@ -7,81 +19,58 @@ use crate::{ffi, Pair, Refusal, Size, Sums};
 /// [`Sums::add`] does this with slices of its own.
 ///
 /// # Errors
-/// [`Refusal::Size`], [`Refusal::Ratio`], [`Refusal::Pitch`], [`Refusal::Length`], [`Refusal::Motion`],
-/// [`Refusal::Pairs`] for 12 pairs or more.
+/// `Refusal::Size`, `Refusal::Ratio`, `Refusal::Pitch`, `Refusal::Length`, `Refusal::Motion`,
+/// `Refusal::Pairs` for 12 pairs or more.
 pub fn stats(
     luma: &mut [f32],
     chroma: [&mut [f32]; 2],
     pairs: usize,
     size: Size,
-    ratio: usize,
+    ratio: Ratio,
     pair: &Pair<'_>,
-) -> Result<(), Refusal> {
+) -> Result<(), Error> {
     let [chroma1, chroma2] = chroma;
-    let (first, second, motion) = (&pair.first, &pair.second, &pair.motion);
-    done(ffi::stats::call(
-        luma,
-        chroma1,
-        chroma2,
-        pairs,
-        size.width,
-        size.height,
-        ratio,
-        first[0].data,
-        first[0].pitch,
-        first[1].data,
-        first[1].pitch,
-        first[2].data,
-        first[2].pitch,
-        second[0].data,
-        second[0].pitch,
-        second[1].data,
-        second[1].pitch,
-        second[2].data,
-        second[2].pitch,
-        motion.forward.0,
-        motion.forward.1,
-        motion.backward.0,
-        motion.backward.1,
-        motion.grid.0,
-        motion.grid.1,
-        motion.block.0,
-        motion.block.1,
-        motion.origin.0,
-        motion.origin.1,
-        motion.pel,
-    ))
+    let lengths = [luma.len(), chroma1.len(), chroma2.len()];
+    let word = groups::stats(luma, [chroma1, chroma2], pairs, size, ratio.number(), pair);
+    done("stats", word, |search| {
+        let mut search = search.size(size).ratio(ratio.number(), size);
+        for channel in Channel::ALL {
+            let (at, plane) = (channel.number(), size.plane(channel, ratio));
+            search = search.plane(FIRST[at], pair.first[at], plane).plane(
+                SECOND[at],
+                pair.second[at],
+                plane,
+            );
+        }
+        let names = ["luma", "chroma[0]", "chroma[1]"];
+        let search = search.slices(names, lengths, 6, size, ratio);
+        search.motion(&pair.motion).pairs("pairs", pairs, 0, 11)
+    })
 }
 
 impl Sums {
     /// Adds one pair of frames; twelve fit in.
     ///
     /// ```
-    /// use safeteal::{Motion, Pair, Plane, Refusal, Size, Sums};
+    /// use safeteal::{Frame, MotionBuf, Pair, Ratio, Refusal, Size, Sums};
     ///
-    /// let (first, second) = (Plane { data: &[10], pitch: 1 }, Plane { data: &[50], pitch: 1 });
-    /// let none: &[u16] = &[1024];
-    /// let motion = Motion {
-    ///     forward: (none, none),
-    ///     backward: (none, none),
-    ///     grid: (1, 1),
-    ///     block: (16, 16),
-    ///     origin: (0, 0),
-    ///     pel: 1,
-    /// };
-    /// let pair = Pair { first: [first; 3], second: [second; 3], motion };
-    /// let mut sums = Sums::new(Size::new(1, 1), 1)?;
+    /// let size = Size::new(1, 1);
+    /// let first = Frame::new(size, Ratio::One, [10, 128, 128])?;
+    /// let second = Frame::new(size, Ratio::One, [50, 128, 128])?;
+    /// let motion = MotionBuf::still(size)?;
+    /// let pair = Pair::of(&first, &second, &motion);
+    /// let mut sums = Sums::new(size, Ratio::One)?;
     /// for _ in 0..12 {
     ///     sums.add(&pair)?;
     /// }
     /// assert_eq!(sums.part().luma[..2], [720.0, 720.0]);
-    /// assert_eq!(sums.add(&pair), Err(Refusal::Pairs));
-    /// # Ok::<(), Refusal>(())
+    /// assert_eq!(sums.add(&pair).unwrap_err().refusal(), Refusal::Pairs);
+    /// # Ok::<(), safeteal::Error>(())
     /// ```
     ///
     /// # Errors
     /// As [`stats`].
-    pub fn add(&mut self, pair: &Pair<'_>) -> Result<(), Refusal> {
+    pub fn add(&mut self, pair: &Pair<'_>) -> Result<(), Error> {
         let [first, second] = &mut self.chroma;
         stats(
             &mut self.luma,

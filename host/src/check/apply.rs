@@ -2,7 +2,7 @@ use super::case::Case;
 use super::expected::{
     plane_bytes, whole_mask, wrong_pitch, wrong_size, wrong_step, wrong_time, Length,
 };
-use super::inputs::{near, pitch, plane, plane_sizes, time};
+use super::inputs::{near, pitch, plane, plane_sizes, step, time};
 use super::rng::Rng;
 use crate::{ffi, oracle};
 
@@ -18,6 +18,27 @@ lent! {
         still: Vec<u8>,
         still_width: usize,
         time: f32,
+    }
+}
+
+impl Apply {
+    /// Puts it to either side: both take the same arguments.
+    pub fn put_to<R>(
+        &mut self,
+        apply: impl FnOnce(&mut [u8], usize, &[u8], &[u8], usize, usize, usize, &[u8], usize, f32) -> R,
+    ) -> R {
+        apply(
+            &mut self.output,
+            self.output_pitch,
+            &self.first,
+            &self.second,
+            self.pitch,
+            self.width,
+            self.height,
+            &self.still,
+            self.still_width,
+            self.time,
+        )
     }
 }
 
@@ -62,18 +83,7 @@ impl Case for Apply {
     }
 
     fn ours(&mut self) -> u64 {
-        ffi::apply::call(
-            &mut self.output,
-            self.output_pitch,
-            &self.first,
-            &self.second,
-            self.pitch,
-            self.width,
-            self.height,
-            &self.still,
-            self.still_width,
-            self.time,
-        )
+        self.put_to(ffi::apply::call)
     }
 
     fn refusal(&self) -> u64 {
@@ -94,25 +104,9 @@ impl Case for Apply {
     }
 
     fn rust(&mut self) -> u64 {
-        oracle::still::apply(
-            &mut self.output,
-            self.output_pitch,
-            &self.first,
-            &self.second,
-            self.pitch,
-            self.width,
-            self.height,
-            &self.still,
-            self.still_width,
-            self.time,
-        );
+        self.put_to(oracle::still::apply);
         0
     }
-}
-
-/// A whole step of 1 to 8, mostly small.
-fn step(rng: &mut Rng) -> usize {
-    rng.pick(&[1, 1, 2, 2, 3, 4, 8])
 }
 
 /// What `mask` makes, thinner or denser; any bytes now and then.

@@ -1,5 +1,7 @@
 //! One input of one call, and the comparison of both sides on it.
 
+#[cfg(test)]
+use super::damage::input;
 use super::expected::Length;
 use super::lent::{arguments, Lent, Value};
 use super::rng::Rng;
@@ -95,7 +97,7 @@ fn said(answer: u64) -> String {
 }
 
 /// The first element of an argument that is not as it should be.
-fn difference<C: Case>(ours: &mut C, right: &mut C, answer: u64) -> Option<String> {
+pub fn difference<C: Case>(ours: &mut C, right: &mut C, answer: u64) -> Option<String> {
     let free = C::free(answer);
     let any_nan = C::ANY_NAN && answer % 256 == 0;
     let pairs = arguments(ours).into_iter().zip(arguments(right));
@@ -129,4 +131,25 @@ fn element<T: std::fmt::Debug>(
 ) -> Option<String> {
     let at = ours.iter().zip(right).position(|(a, b)| !same(a, b))?;
     Some(format!("[{at}] is {:?}, not {:?}", ours[at], right[at]))
+}
+
+/// The count that `rust` reckons is that of the bytes the Rust writes: a written byte does not depend on the one before
+/// it.
+#[cfg(test)]
+pub fn assert_count_is_of_written_bytes<C: Case>(output: fn(&mut C) -> &mut Vec<u8>) {
+    for index in 0..20_000 {
+        let mut case: C = input(&mut Rng::of(7, "count", index));
+        if case.refusal() != 0 {
+            continue;
+        }
+        let mut other = case.clone();
+        output(&mut other)
+            .iter_mut()
+            .for_each(|byte| *byte = !*byte);
+        let count = case.rust() / 256;
+        other.rust();
+        let bytes = output(&mut case).iter().zip(output(&mut other));
+        let written = bytes.filter(|(a, b)| **a == **b);
+        assert_eq!(written.count() as u64, count, "case {index}");
+    }
 }

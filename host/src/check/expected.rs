@@ -122,24 +122,34 @@ pub fn fixed(value: f32, scale: f32) -> i16 {
     (value * scale).round().clamp(-32767.0, 32767.0) as i16
 }
 
-/// The whole-number chroma totals of plane offsets, one for each luma pixel, and whether one leaves the range (row 8).
-pub fn chroma_totals(offsets: &[f32], width: usize, ratio: usize) -> (Vec<i64>, bool) {
+/// Row 8: whether a whole-number chroma total of either plane leaves the range; one offset for each luma pixel.
+///
+/// The Rust's release build wraps each total to 16 bits: a check of the totals made here against the stored ones.
+pub fn totals_leave(
+    offsets: &[Vec<f32>; 2],
+    width: usize,
+    ratio: usize,
+    stored: &[Vec<i16>; 2],
+) -> bool {
+    let leave = |plane: usize| {
+        let totals = chroma_totals(&offsets[plane], width, ratio);
+        let wrapped: Vec<i16> = totals.iter().map(|&total| total as i16).collect();
+        assert_eq!(
+            wrapped,
+            stored[plane][..totals.len()],
+            "the totals reckoned here are not the Rust's"
+        );
+        totals.iter().any(|total| i16::try_from(*total).is_err())
+    };
+    [0, 1].map(leave).contains(&true)
+}
+
+fn chroma_totals(offsets: &[f32], width: usize, ratio: usize) -> Vec<i64> {
     let (half, share) = (width / ratio, (ratio * ratio) as f32);
     let mut totals = vec![0i64; offsets.len() / (ratio * ratio)];
     for (at, &offset) in offsets.iter().enumerate() {
         let target = (at / width / ratio) * half + (at % width) / ratio;
         totals[target] += i64::from(fixed(offset / share, 64.0));
     }
-    let outside = totals.iter().any(|total| i16::try_from(*total).is_err());
-    (totals, outside)
-}
-
-/// The Rust's release build wraps each total to 16 bits: a check of the totals made here against the Rust's.
-pub fn assert_wraps_to(totals: &[i64], stored: &[i16]) {
-    let wrapped: Vec<i16> = totals.iter().map(|&total| total as i16).collect();
-    assert_eq!(
-        wrapped,
-        stored[..totals.len()],
-        "the totals reckoned here are not the Rust's"
-    );
+    totals
 }

@@ -1,6 +1,6 @@
 use super::case::Case;
 use super::expected::{plane_bytes, whole_mask, wrong_pitch, wrong_size, wrong_step, Length};
-use super::inputs::{bytes, pitch, plane, plane_sizes};
+use super::inputs::{bytes, pitch, plane, plane_sizes, step};
 use super::rng::Rng;
 use crate::{ffi, oracle};
 
@@ -17,6 +17,25 @@ lent! {
     }
 }
 
+impl Hold {
+    /// Puts it to either side: both take the same arguments.
+    pub fn put_to<R>(
+        &mut self,
+        hold: impl FnOnce(&mut [u8], usize, &[u8], usize, usize, usize, &[u8], usize) -> R,
+    ) -> R {
+        hold(
+            &mut self.output,
+            self.output_pitch,
+            &self.held,
+            self.held_pitch,
+            self.width,
+            self.height,
+            &self.mask,
+            self.mask_width,
+        )
+    }
+}
+
 impl Case for Hold {
     const NAME: &'static str = "hold";
     const NUMBERS: &'static [usize] = &[0, 1, 2, 3, 4];
@@ -25,9 +44,8 @@ impl Case for Hold {
     fn random(rng: &mut Rng) -> Self {
         let (width, height) = plane_sizes(rng, 16);
         let (output_pitch, held_pitch) = (pitch(rng, width, height), pitch(rng, width, height));
-        let steps = [1, 1, 2, 2, 3, 4, 8];
-        let mask_width = rng.pick(&steps) * width;
-        let length = mask_width * height * rng.pick(&steps);
+        let mask_width = step(rng) * width;
+        let length = mask_width * height * step(rng);
         Self {
             output: plane(rng, output_pitch, width, height),
             output_pitch,
@@ -53,16 +71,7 @@ impl Case for Hold {
     }
 
     fn ours(&mut self) -> u64 {
-        ffi::hold::call(
-            &mut self.output,
-            self.output_pitch,
-            &self.held,
-            self.held_pitch,
-            self.width,
-            self.height,
-            &self.mask,
-            self.mask_width,
-        )
+        self.put_to(ffi::hold::call)
     }
 
     fn refusal(&self) -> u64 {
@@ -82,16 +91,7 @@ impl Case for Hold {
     }
 
     fn rust(&mut self) -> u64 {
-        oracle::still::hold(
-            &mut self.output,
-            self.output_pitch,
-            &self.held,
-            self.held_pitch,
-            self.width,
-            self.height,
-            &self.mask,
-            self.mask_width,
-        );
+        self.put_to(oracle::still::hold);
         0
     }
 }

@@ -36,6 +36,11 @@ pub fn plane_sizes(rng: &mut Rng, most: usize) -> (usize, usize) {
     (width.div_ceil(ratio), height.div_ceil(ratio))
 }
 
+/// A whole step of a mask, 1 to 8, mostly small.
+pub fn step(rng: &mut Rng) -> usize {
+    rng.pick(&[1, 1, 2, 2, 3, 4, 8])
+}
+
 /// A pitch for rows of that width, at both ends of its range as well; the upper end only for few rows.
 pub fn pitch(rng: &mut Rng, row: usize, rows: usize) -> usize {
     match rng.below(2000) {

@@ -1,18 +1,22 @@
 //! Layers lent to peel, unpeel, render and empty, as numbers and as bytes.
 
+use std::mem::size_of;
+
 use super::expected::{
     layer_numbers, over, plane_bytes, wrong_pitch, wrong_plane, wrong_ratio, wrong_size, Length,
 };
 use super::inputs::{longer, pitch};
+use super::lent::Element;
 use super::rng::Rng;
-use crate::oracle::layer as rust;
+use crate::groups::{Form, LentLayer};
+use crate::Size;
 
 lent! {
-    /// A layer lent as numbers.
-    pub struct Layer {
-        luma: Vec<i16>,
-        chroma1: Vec<i16>,
-        chroma2: Vec<i16>,
+    /// A layer lent as numbers, or as little-endian bytes.
+    pub struct Layer<T: Number> {
+        luma: Vec<T>,
+        chroma1: Vec<T>,
+        chroma2: Vec<T>,
         luma_pitch: usize,
         chroma_pitch: usize,
         width: usize,
@@ -21,21 +25,119 @@ lent! {
     }
 }
 
-lent! {
-    /// A layer lent as little-endian bytes.
-    pub struct LayerBytes {
-        luma: Vec<u8>,
-        chroma1: Vec<u8>,
-        chroma2: Vec<u8>,
-        luma_pitch: usize,
-        chroma_pitch: usize,
-        width: usize,
-        height: usize,
-        ratio: usize,
+/// What a layer's numbers are lent as.
+pub trait Number: Form + Element {
+    /// The names of its calls.
+    const PEEL: &'static str;
+    const UNPEEL: &'static str;
+
+    /// A layer in this form.
+    fn layer(numbers: Layer<i16>, rng: &mut Rng) -> Layer<Self>;
+
+    /// The numbers of a layer in this form.
+    fn numbers(layer: &Layer<Self>) -> Layer<i16>;
+}
+
+impl Number for i16 {
+    const PEEL: &'static str = "peel_numbers";
+    const UNPEEL: &'static str = "unpeel_numbers";
+
+    fn layer(numbers: Layer<i16>, _: &mut Rng) -> Layer<i16> {
+        numbers
+    }
+
+    fn numbers(layer: &Layer<i16>) -> Layer<i16> {
+        layer.clone()
     }
 }
 
-impl Layer {
+impl Number for u8 {
+    const PEEL: &'static str = "peel";
+    const UNPEEL: &'static str = "unpeel";
+
+    /// With a byte left over here and there.
+    fn layer(numbers: Layer<i16>, rng: &mut Rng) -> Layer<u8> {
+        numbers.with(|numbers| {
+            let over = rng.once_in(6).then_some(rng.bits() as u8);
+            let bytes = numbers.iter().flat_map(|number| number.to_le_bytes());
+            bytes.chain(over).collect()
+        })
+    }
+
+    /// "a byte left over at the end being passed over".
+    fn numbers(layer: &Layer<u8>) -> Layer<i16> {
+        let number = |pair: &[u8]| i16::from_le_bytes([pair[0], pair[1]]);
+        layer.with(|bytes| bytes.chunks_exact(2).map(number).collect())
+    }
+}
+
+impl<T: Number> Layer<T> {
+    /// The same layer with other slices made of its own.
+    fn with<U: Number>(&self, mut slice: impl FnMut(&[T]) -> Vec<U>) -> Layer<U> {
+        Layer {
+            luma: slice(&self.luma),
+            chroma1: slice(&self.chroma1),
+            chroma2: slice(&self.chroma2),
+            luma_pitch: self.luma_pitch,
+            chroma_pitch: self.chroma_pitch,
+            width: self.width,
+            height: self.height,
+            ratio: self.ratio,
+        }
+    }
+
+    pub fn lent(&self) -> LentLayer<'_, T> {
+        LentLayer {
+            luma: &self.luma,
+            chroma: [&self.chroma1, &self.chroma2],
+            pitch: (self.luma_pitch, self.chroma_pitch),
+            size: Size::new(self.width, self.height),
+            ratio: self.ratio,
+        }
+    }
+
+    /// The two sizes of a plane of this layer.
+    pub fn plane(&self, plane: usize) -> (usize, usize) {
+        let ratio = if plane == 0 { 1 } else { self.ratio };
+        (over(self.width, ratio), over(self.height, ratio))
+    }
+
+    /// Rows 1 and 2 of a call with a layer and a plane.
+    pub fn refusal(&self, plane: usize) -> u64 {
+        if wrong_size(self.width, self.height) || wrong_plane(plane) {
+            1
+        } else if wrong_ratio(self.ratio, self.width, self.height) {
+            2
+        } else {
+            0
+        }
+    }
+
+    /// Row 3 for the layer's own pitches.
+    pub fn wrong_pitches(&self) -> bool {
+        wrong_pitch(self.luma_pitch, self.width)
+            || wrong_pitch(self.chroma_pitch, over(self.width, self.ratio))
+    }
+
+    /// What each slice must have in elements: an odd byte adds no number.
+    pub fn lengths(&self) -> [Length; 3] {
+        let each = size_of::<i16>() / size_of::<T>();
+        let chroma = layer_numbers(self.chroma_pitch, over(self.height, self.ratio), each);
+        [
+            layer_numbers(self.luma_pitch, self.height, each),
+            chroma,
+            chroma,
+        ]
+    }
+
+    /// The length of a byte plane that goes with the layer.
+    pub fn bytes(&self, plane: usize, pitch: usize) -> Length {
+        let (row, rows) = self.plane(plane);
+        plane_bytes(pitch, row, rows)
+    }
+}
+
+impl Layer<i16> {
     pub fn random(rng: &mut Rng, (width, height, ratio): (usize, usize, usize)) -> Self {
         let (half, rows) = (width / ratio, height / ratio);
         let (luma_pitch, chroma_pitch) = (pitch(rng, width, height), pitch(rng, half, rows));
@@ -65,44 +167,6 @@ impl Layer {
         let cells = self.chroma_pitch * (self.height / self.ratio);
         self.chroma2[..cells].fill_with(|| offset(rng));
         self.chroma2[cells..].fill_with(|| distance(rng));
-    }
-
-    /// The two sizes of a plane of this layer.
-    pub fn plane(&self, plane: usize) -> (usize, usize) {
-        let ratio = if plane == 0 { 1 } else { self.ratio };
-        (over(self.width, ratio), over(self.height, ratio))
-    }
-
-    /// Rows 1 and 2 of a call with a layer and a plane.
-    pub fn refusal(&self, plane: usize) -> u64 {
-        if wrong_size(self.width, self.height) || wrong_plane(plane) {
-            1
-        } else if wrong_ratio(self.ratio, self.width, self.height) {
-            2
-        } else {
-            0
-        }
-    }
-
-    /// Row 3 for the layer's own pitches.
-    pub fn wrong_pitches(&self) -> bool {
-        wrong_pitch(self.luma_pitch, self.width)
-            || wrong_pitch(self.chroma_pitch, over(self.width, self.ratio))
-    }
-
-    pub fn lengths(&self) -> [Length; 3] {
-        let chroma = layer_numbers(self.chroma_pitch, over(self.height, self.ratio), 1);
-        [
-            layer_numbers(self.luma_pitch, self.height, 1),
-            chroma,
-            chroma,
-        ]
-    }
-
-    /// The length of a byte plane that goes with the layer.
-    pub fn bytes(&self, plane: usize, pitch: usize) -> Length {
-        let (row, rows) = self.plane(plane);
-        plane_bytes(pitch, row, rows)
     }
 
     /// The distance stored for the cell of a pixel.
@@ -140,71 +204,6 @@ impl Layer {
             self.distance(plane, x, y) <= 1 && !self.plain(plane, x, y)
         };
         (0..width * height).filter(written).count() as u64
-    }
-
-    /// The Rust's own view of it.
-    pub fn rust(&self) -> rust::Layer<'_> {
-        rust::Layer {
-            luma: &self.luma,
-            chroma: [&self.chroma1, &self.chroma2],
-            pitch: (self.luma_pitch, self.chroma_pitch),
-            size: (self.width, self.height),
-            ratio: self.ratio,
-        }
-    }
-
-    /// The same layer as bytes, with a byte left over here and there.
-    pub fn to_bytes(&self, rng: &mut Rng) -> LayerBytes {
-        let mut bytes = |numbers: &[i16]| -> Vec<u8> {
-            let over = rng.once_in(6).then_some(rng.bits() as u8);
-            numbers
-                .iter()
-                .flat_map(|number| number.to_le_bytes())
-                .chain(over)
-                .collect()
-        };
-        LayerBytes {
-            luma: bytes(&self.luma),
-            chroma1: bytes(&self.chroma1),
-            chroma2: bytes(&self.chroma2),
-            luma_pitch: self.luma_pitch,
-            chroma_pitch: self.chroma_pitch,
-            width: self.width,
-            height: self.height,
-            ratio: self.ratio,
-        }
-    }
-}
-
-impl LayerBytes {
-    /// The same layer as numbers: "a byte left over at the end being passed over".
-    pub fn to_numbers(&self) -> Layer {
-        let numbers = |bytes: &[u8]| {
-            let pairs = bytes.chunks_exact(2);
-            pairs
-                .map(|pair| i16::from_le_bytes([pair[0], pair[1]]))
-                .collect()
-        };
-        Layer {
-            luma: numbers(&self.luma),
-            chroma1: numbers(&self.chroma1),
-            chroma2: numbers(&self.chroma2),
-            luma_pitch: self.luma_pitch,
-            chroma_pitch: self.chroma_pitch,
-            width: self.width,
-            height: self.height,
-            ratio: self.ratio,
-        }
-    }
-
-    /// Lengths in bytes, two for each number: an odd byte adds none.
-    pub fn lengths(&self) -> [Length; 3] {
-        let chroma = layer_numbers(self.chroma_pitch, over(self.height, self.ratio), 2);
-        [
-            layer_numbers(self.luma_pitch, self.height, 2),
-            chroma,
-            chroma,
-        ]
     }
 }
 

@@ -38,6 +38,20 @@ impl Argument<'_> {
         }
     }
 
+    /// Moves a slice into an allocation of exactly its length, so that nothing behind it is anyone's to read.
+    pub fn tighten(&mut self) {
+        fn tight<T>(slice: &mut Vec<T>) {
+            *slice = std::mem::take(slice).into_boxed_slice().into_vec();
+        }
+        match &mut self.value {
+            Value::Bytes(slice) => tight(slice),
+            Value::Shorts(slice) => tight(slice),
+            Value::Words(slice) => tight(slice),
+            Value::Floats(slice) => tight(slice),
+            Value::Size(_) | Value::Int(_) | Value::Float(_) | Value::Flag(_) => {}
+        }
+    }
+
     pub fn is_slice(&self) -> bool {
         !matches!(
             self.value,
@@ -67,39 +81,62 @@ pub fn arguments(lent: &mut impl Lent) -> Vec<Argument<'_>> {
     list
 }
 
+/// One argument: a number, or a slice.
+pub trait Single {
+    fn value(&mut self) -> Value<'_>;
+
+    /// The length of a slice.
+    fn length(&self) -> Option<usize> {
+        None
+    }
+}
+
+impl<S: Single> Lent for S {
+    fn lend<'a>(
+        &'a mut self,
+        owner: &'static str,
+        name: &'static str,
+        list: &mut Vec<Argument<'a>>,
+    ) {
+        let value = self.value();
+        list.push(Argument { owner, name, value });
+    }
+
+    fn measure(&self, lengths: &mut Vec<usize>) {
+        lengths.extend(self.length());
+    }
+}
+
+/// What slices are made of.
+pub trait Element: Copy + 'static {
+    fn slice(slice: &mut Vec<Self>) -> Value<'_>;
+}
+
+impl<T: Element> Single for Vec<T> {
+    fn value(&mut self) -> Value<'_> {
+        T::slice(self)
+    }
+
+    fn length(&self) -> Option<usize> {
+        Some(self.len())
+    }
+}
+
 macro_rules! number {
     ($type:ty, $value:ident) => {
-        impl Lent for $type {
-            fn lend<'a>(
-                &'a mut self,
-                owner: &'static str,
-                name: &'static str,
-                list: &mut Vec<Argument<'a>>,
-            ) {
-                let value = Value::$value(self);
-                list.push(Argument { owner, name, value });
+        impl Single for $type {
+            fn value(&mut self) -> Value<'_> {
+                Value::$value(self)
             }
-
-            fn measure(&self, _: &mut Vec<usize>) {}
         }
     };
 }
 
-macro_rules! slice {
+macro_rules! element {
     ($type:ty, $value:ident) => {
-        impl Lent for Vec<$type> {
-            fn lend<'a>(
-                &'a mut self,
-                owner: &'static str,
-                name: &'static str,
-                list: &mut Vec<Argument<'a>>,
-            ) {
-                let value = Value::$value(self);
-                list.push(Argument { owner, name, value });
-            }
-
-            fn measure(&self, lengths: &mut Vec<usize>) {
-                lengths.push(self.len());
+        impl Element for $type {
+            fn slice(slice: &mut Vec<Self>) -> Value<'_> {
+                Value::$value(slice)
             }
         }
     };
@@ -109,30 +146,33 @@ number!(usize, Size);
 number!(i32, Int);
 number!(f32, Float);
 number!(bool, Flag);
-slice!(u8, Bytes);
-slice!(i16, Shorts);
-slice!(u16, Words);
-slice!(f32, Floats);
+element!(u8, Bytes);
+element!(i16, Shorts);
+element!(u16, Words);
+element!(f32, Floats);
 
 /// Declares a struct of lent things in the order of the C interface.
 ///
 /// A member group in brackets gives its members no name of its own: `layer` of peel has `luma`, not `layer_luma`.
 macro_rules! lent {
-    ($(#[$doc:meta])* pub struct $name:ident { $($rest:tt)* }) => {
-        lent!(@ [$(#[$doc])*] $name [] [] $($rest)*);
+    ($(#[$doc:meta])* pub struct $name:ident $(<$of:ident: $bound:ident>)? { $($rest:tt)* }) => {
+        lent!(@ [$(#[$doc])*] $name [$(<$of: $bound>)?] [] [] $($rest)*);
     };
-    (@ $docs:tt $name:ident [$($fields:tt)*] [$($names:tt)*] [$field:ident]: $type:ty, $($rest:tt)*) => {
-        lent!(@ $docs $name [$($fields)* $field: $type,] [$($names)* ($field "")] $($rest)*);
+    (@ $docs:tt $name:ident $of:tt [$($fields:tt)*] [$($names:tt)*] [$field:ident]: $type:ty, $($rest:tt)*) => {
+        lent!(@ $docs $name $of [$($fields)* $field: $type,] [$($names)* ($field "")] $($rest)*);
     };
-    (@ $docs:tt $name:ident [$($fields:tt)*] [$($names:tt)*] $field:ident: $type:ty, $($rest:tt)*) => {
-        lent!(@ $docs $name [$($fields)* $field: $type,] [$($names)* ($field stringify!($field))] $($rest)*);
+    (@ $docs:tt $name:ident $of:tt [$($fields:tt)*] [$($names:tt)*] $field:ident: $type:ty, $($rest:tt)*) => {
+        lent!(@ $docs $name $of [$($fields)* $field: $type,] [$($names)* ($field stringify!($field))] $($rest)*);
     };
-    (@ [$($docs:tt)*] $name:ident [$($field:ident: $type:ty,)*] [$(($member:ident $called:expr))*]) => {
+    (
+        @ [$($docs:tt)*] $name:ident [$(<$of:ident: $bound:ident>)?]
+        [$($field:ident: $type:ty,)*] [$(($member:ident $called:expr))*]
+    ) => {
         $($docs)*
         #[derive(Clone)]
-        pub struct $name { $(pub $field: $type,)* }
+        pub struct $name $(<$of: $bound>)? { $(pub $field: $type,)* }
 
-        impl $crate::check::lent::Lent for $name {
+        impl $(<$of: $bound>)? $crate::check::lent::Lent for $name $(<$of>)? {
             fn lend<'a>(
                 &'a mut self,
                 owner: &'static str,

@@ -2,10 +2,9 @@
 
 use super::expected::{exactly, wrong_motion, Length};
 use super::rng::Rng;
-use crate::oracle::layer as rust;
 
 lent! {
-    /// The Rust's `Motion`, field by field.
+    /// `Motion`, field by field.
     pub struct Motion {
         forward_x: Vec<u16>,
         forward_y: Vec<u16>,
@@ -97,9 +96,8 @@ impl Motion {
         )
     }
 
-    /// The Rust's own view of it.
-    pub fn rust(&self) -> rust::Motion<'_> {
-        rust::Motion {
+    pub fn lent(&self) -> crate::Motion<'_> {
+        crate::Motion {
             forward: (&self.forward_x, &self.forward_y),
             backward: (&self.backward_x, &self.backward_y),
             grid: (self.grid_width, self.grid_height),

@@ -1,13 +1,15 @@
 use super::case::Case;
-use super::expected::Length;
-use super::layer::LayerBytes;
-use super::peel_numbers::PeelNumbers;
+use super::expected::{wrong_pitch, Length};
+use super::inputs::{pitch, plane, sizes};
+use super::layer::{Layer, Number};
 use super::rng::Rng;
-use crate::ffi;
+use crate::groups::LentLayer;
+use crate::oracle::layer as rust;
+use crate::{Plane, PlaneMut};
 
 lent! {
-    pub struct Peel {
-        [layer]: LayerBytes,
+    pub struct Peel<T: Number> {
+        [layer]: Layer<T>,
         plane: usize,
         output: Vec<u8>,
         output_pitch: usize,
@@ -16,68 +18,86 @@ lent! {
     }
 }
 
-impl Peel {
-    fn numbers(&self) -> PeelNumbers {
-        PeelNumbers {
-            layer: self.layer.to_numbers(),
-            plane: self.plane,
-            output: self.output.clone(),
-            output_pitch: self.output_pitch,
-            raw: self.raw.clone(),
-            raw_pitch: self.raw_pitch,
-        }
+impl<T: Number> Peel<T> {
+    pub fn lent(&mut self) -> (LentLayer<'_, T>, PlaneMut<'_>, Plane<'_>) {
+        let output = PlaneMut {
+            data: &mut self.output,
+            pitch: self.output_pitch,
+        };
+        let raw = Plane {
+            data: &self.raw,
+            pitch: self.raw_pitch,
+        };
+        (self.layer.lent(), output, raw)
     }
 }
 
-impl Case for Peel {
-    const NAME: &'static str = "peel";
+impl<T: Number> Case for Peel<T> {
+    const NAME: &'static str = T::PEEL;
     const NUMBERS: &'static [usize] = &[0, 1, 2, 3, 4];
     const WRITTEN: &'static [&'static str] = &["output"];
 
     fn random(rng: &mut Rng) -> Self {
-        let numbers = PeelNumbers::random(rng);
+        let size = sizes(rng, 16);
+        let layer = Layer::random(rng, size);
+        let number = rng.below(3);
+        let (width, height) = layer.plane(number);
+        let (output_pitch, raw_pitch) = (pitch(rng, width, height), pitch(rng, width, height));
+        let output = plane(rng, output_pitch, width, height);
+        let raw = plane(rng, raw_pitch, width, height);
         Self {
-            layer: numbers.layer.to_bytes(rng),
-            plane: numbers.plane,
-            output: numbers.output,
-            output_pitch: numbers.output_pitch,
-            raw: numbers.raw,
-            raw_pitch: numbers.raw_pitch,
+            layer: T::layer(layer, rng),
+            plane: number,
+            output,
+            output_pitch,
+            raw,
+            raw_pitch,
         }
     }
 
     fn lengths(&self) -> Vec<Length> {
-        let mut lengths = self.numbers().lengths();
-        lengths.splice(..3, self.layer.lengths());
-        lengths
+        let [luma, chroma1, chroma2] = self.layer.lengths();
+        let output = self.layer.bytes(self.plane, self.output_pitch);
+        let raw = self.layer.bytes(self.plane, self.raw_pitch);
+        vec![luma, chroma1, chroma2, output, raw]
     }
 
     fn ours(&mut self) -> u64 {
-        ffi::peel::call(
-            &self.layer.luma,
-            &self.layer.chroma1,
-            &self.layer.chroma2,
-            self.layer.luma_pitch,
-            self.layer.chroma_pitch,
-            self.layer.width,
-            self.layer.height,
-            self.layer.ratio,
-            self.plane,
-            &mut self.output,
-            self.output_pitch,
-            &self.raw,
-            self.raw_pitch,
-        )
+        let plane = self.plane;
+        let (layer, mut output, raw) = self.lent();
+        T::peel(&layer, plane, &mut output, raw)
     }
 
     fn refusal(&self) -> u64 {
-        self.numbers().refusal()
+        let row = self.layer.plane(self.plane).0;
+        match self.layer.refusal(self.plane) {
+            0 if self.layer.wrong_pitches()
+                || wrong_pitch(self.output_pitch, row)
+                || wrong_pitch(self.raw_pitch, row) =>
+            {
+                3
+            }
+            0 if self.misfits() => 4,
+            number => number,
+        }
     }
 
     fn rust(&mut self) -> u64 {
-        let mut numbers = self.numbers();
-        let answer = numbers.rust();
-        self.output = numbers.output;
-        answer
+        let (plane, numbers) = (self.plane, T::numbers(&self.layer));
+        let (_, output, raw) = self.lent();
+        let layer = rust::Layer::from(numbers.lent());
+        layer.peel(plane, output.data, output.pitch, raw.into());
+        numbers.layered(plane) * 256
+    }
+}
+
+#[cfg(test)]
+mod tests {
+    use super::*;
+    use crate::check::case::assert_count_is_of_written_bytes;
+
+    #[test]
+    fn the_count_is_that_of_the_bytes_the_rust_writes() {
+        assert_count_is_of_written_bytes(|case: &mut Peel<i16>| &mut case.output);
     }
 }

@@ -6,6 +6,7 @@ use std::time::{Duration, Instant, SystemTime, UNIX_EPOCH};
 
 use super::case::{compare, Case, Compared};
 use super::damage::input;
+use super::lent::{arguments, Argument};
 use super::rng::Rng;
 use super::show;
 use super::shrink::shrink;
@@ -88,6 +89,7 @@ pub struct Call {
     /// The numbers it can answer.
     pub numbers: &'static [usize],
     run: fn(u64, Until) -> Result<Tally, String>,
+    alone: fn(u64, u64) -> Tally,
     record: fn(u32, u64, usize) -> stored::Stored,
 }
 
@@ -98,6 +100,7 @@ impl Call {
             name: C::NAME,
             numbers: C::NUMBERS,
             run: run::<C>,
+            alone: alone::<C>,
             record: stored::record::<C>,
         }
     }
@@ -105,6 +108,11 @@ impl Call {
     /// Compares until the end; the words of a failure can be pasted as a test.
     pub fn run(&self, seed: u64, until: Until) -> Result<Tally, String> {
         (self.run)(seed, until)
+    }
+
+    /// Our side alone, each slice in an allocation of exactly its length: for a run under a memory checker.
+    pub fn alone(&self, seed: u64, cases: u64) -> Tally {
+        (self.alone)(seed, cases)
     }
 
     /// The numbers that the call can answer and that no case of this run had.
@@ -151,6 +159,18 @@ fn run<C: Case>(seed: u64, until: Until) -> Result<Tally, String> {
         tally.note(judged(&case).map_err(place)?);
     }
     Ok(tally)
+}
+
+fn alone<C: Case>(seed: u64, cases: u64) -> Tally {
+    let start = Instant::now();
+    let mut tally = Tally::default();
+    for index in 0..cases {
+        let mut case = input::<C>(&mut Rng::of(seed, C::NAME, index));
+        arguments(&mut case).iter_mut().for_each(Argument::tighten);
+        tally.note(case.ours());
+    }
+    tally.time = start.elapsed();
+    tally
 }
 
 /// The right answer where both sides agree, else the words of the difference with a small input that has it.

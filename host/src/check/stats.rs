@@ -3,8 +3,8 @@ use super::expected::{exactly, over, plane_bytes, wrong_pitch, wrong_ratio, wron
 use super::inputs::{near, pitch, plane, sizes};
 use super::motion::Motion;
 use super::rng::Rng;
-use crate::ffi;
 use crate::oracle::layer as rust;
+use crate::{groups, Pair, Size};
 
 lent! {
     /// A byte plane with its pitch.
@@ -50,8 +50,8 @@ impl Plane {
         }
     }
 
-    fn rust(&self) -> rust::Plane<'_> {
-        rust::Plane {
+    fn lent(&self) -> crate::Plane<'_> {
+        crate::Plane {
             data: &self.data,
             pitch: self.pitch,
         }
@@ -73,15 +73,15 @@ impl Stats {
         ]
     }
 
-    /// What the Rust gathers from this one pair.
-    pub fn gathered(&self) -> rust::Stats {
-        let [a, b, c, d, e, f] = self.planes().map(|(plane, ..)| plane.rust());
-        let pair = rust::Pair {
-            first: [a, b, c],
-            second: [d, e, f],
-            motion: self.motion.rust(),
+    /// The sums (of luma and of chroma) and the pair.
+    pub fn lent(&mut self) -> (&mut [f32], [&mut [f32]; 2], Pair<'_>) {
+        let pair = Pair {
+            first: [&self.first0, &self.first1, &self.first2].map(Plane::lent),
+            second: [&self.second0, &self.second1, &self.second2].map(Plane::lent),
+            motion: self.motion.lent(),
         };
-        rust::stats(&[pair], (self.width, self.height), self.ratio)
+        let chroma: [&mut [f32]; 2] = [&mut self.chroma1, &mut self.chroma2];
+        (&mut self.luma, chroma, pair)
     }
 }
 
@@ -140,38 +140,10 @@ impl Case for Stats {
     }
 
     fn ours(&mut self) -> u64 {
-        ffi::stats::call(
-            &mut self.luma,
-            &mut self.chroma1,
-            &mut self.chroma2,
-            self.pairs,
-            self.width,
-            self.height,
-            self.ratio,
-            &self.first0.data,
-            self.first0.pitch,
-            &self.first1.data,
-            self.first1.pitch,
-            &self.first2.data,
-            self.first2.pitch,
-            &self.second0.data,
-            self.second0.pitch,
-            &self.second1.data,
-            self.second1.pitch,
-            &self.second2.data,
-            self.second2.pitch,
-            &self.motion.forward_x,
-            &self.motion.forward_y,
-            &self.motion.backward_x,
-            &self.motion.backward_y,
-            self.motion.grid_width,
-            self.motion.grid_height,
-            self.motion.block_width,
-            self.motion.block_height,
-            self.motion.origin_x,
-            self.motion.origin_y,
-            self.motion.pel,
-        )
+        let (pairs, ratio) = (self.pairs, self.ratio);
+        let size = Size::new(self.width, self.height);
+        let (luma, chroma, pair) = self.lent();
+        groups::stats(luma, chroma, pairs, size, ratio, &pair)
     }
 
     fn refusal(&self) -> u64 {
@@ -198,16 +170,17 @@ impl Case for Stats {
 
     /// The Rust starts from 0.0 and adds pair after pair, so that one pair more is one addition more to each sum.
     fn rust(&mut self) -> u64 {
-        let one = self.gathered();
-        let start = self.pairs == 0;
+        let (start, size, ratio) = (self.pairs == 0, (self.width, self.height), self.ratio);
+        let (luma, [chroma1, chroma2], pair) = self.lent();
+        let one = rust::stats(&[pair.into()], size, ratio);
         let add = |sums: &mut [f32], terms: &[f32]| {
             for (sum, term) in sums.iter_mut().zip(terms) {
                 *sum = if start { *term } else { *sum + *term };
             }
         };
-        add(&mut self.luma, one.luma().as_flattened());
-        add(&mut self.chroma1, one.chroma()[0].as_flattened());
-        add(&mut self.chroma2, one.chroma()[1].as_flattened());
+        add(luma, one.luma().as_flattened());
+        add(chroma1, one.chroma()[0].as_flattened());
+        add(chroma2, one.chroma()[1].as_flattened());
         0
     }
 }
@@ -233,17 +206,16 @@ mod tests {
     fn one_pair_more_is_one_addition_more() {
         for index in 0..2_000 {
             let mut rng = Rng::of(5, "pairs", index);
-            let case = Stats::random(&mut rng);
-            let [a, b, c, d, e, f] = case.planes().map(|(plane, ..)| plane.rust());
-            let pair = |first, second| rust::Pair {
-                first,
-                second,
-                motion: case.motion.rust(),
+            let mut first = Stats::random(&mut rng);
+            let (size, ratio) = ((first.width, first.height), first.ratio);
+            let (_, _, pair) = first.lent();
+            let turned = Pair {
+                first: pair.second,
+                second: pair.first,
+                ..pair
             };
-            let pairs = [pair([a, b, c], [d, e, f]), pair([d, e, f], [a, b, c])];
-            let both = rust::stats(&pairs, (case.width, case.height), case.ratio);
+            let both = rust::stats(&[pair.into(), turned.into()], size, ratio);
 
-            let mut first = case.clone();
             first.pairs = 0;
             first.rust();
             let mut second = Stats {

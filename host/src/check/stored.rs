@@ -127,29 +127,17 @@ fn number(made: &mut Vec<u8>, value: &Value) {
 
 /// Bytes to an element, and all bytes of a slice.
 fn bytes(value: &Value) -> (usize, Vec<u8>) {
+    fn all<T: Copy, const N: usize>(slice: &[T], bytes: fn(T) -> [u8; N]) -> (usize, Vec<u8>) {
+        (
+            N,
+            slice.iter().flat_map(|element| bytes(*element)).collect(),
+        )
+    }
     match value {
-        Value::Bytes(slice) => (1, slice.to_vec()),
-        Value::Shorts(slice) => (
-            2,
-            slice
-                .iter()
-                .flat_map(|number| number.to_le_bytes())
-                .collect(),
-        ),
-        Value::Words(slice) => (
-            2,
-            slice
-                .iter()
-                .flat_map(|number| number.to_le_bytes())
-                .collect(),
-        ),
-        Value::Floats(slice) => (
-            4,
-            slice
-                .iter()
-                .flat_map(|number| number.to_le_bytes())
-                .collect(),
-        ),
+        Value::Bytes(slice) => all(slice, u8::to_le_bytes),
+        Value::Shorts(slice) => all(slice, i16::to_le_bytes),
+        Value::Words(slice) => all(slice, u16::to_le_bytes),
+        Value::Floats(slice) => all(slice, f32::to_le_bytes),
         _ => unreachable!("a number is no slice"),
     }
 }

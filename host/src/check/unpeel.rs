@@ -1,13 +1,15 @@
 use super::case::Case;
-use super::expected::Length;
-use super::layer::LayerBytes;
+use super::expected::{wrong_pitch, wrong_time, Length};
+use super::inputs::{near, pitch, plane, sizes, time};
+use super::layer::{Layer, Number};
 use super::rng::Rng;
-use super::unpeel_numbers::UnpeelNumbers;
-use crate::ffi;
+use crate::groups::LentLayer;
+use crate::oracle::layer as rust;
+use crate::{Frames, Plane, PlaneMut};
 
 lent! {
-    pub struct Unpeel {
-        [layer]: LayerBytes,
+    pub struct Unpeel<T: Number> {
+        [layer]: Layer<T>,
         plane: usize,
         output: Vec<u8>,
         output_pitch: usize,
@@ -19,77 +21,95 @@ lent! {
     }
 }
 
-impl Unpeel {
-    fn numbers(&self) -> UnpeelNumbers {
-        UnpeelNumbers {
-            layer: self.layer.to_numbers(),
-            plane: self.plane,
-            output: self.output.clone(),
-            output_pitch: self.output_pitch,
-            first: self.first.clone(),
-            first_pitch: self.first_pitch,
-            second: self.second.clone(),
-            second_pitch: self.second_pitch,
-            time: self.time,
+impl<T: Number> Unpeel<T> {
+    /// A good input of these sizes and this ratio.
+    pub fn sized(rng: &mut Rng, size: (usize, usize, usize)) -> Self {
+        let layer = Layer::random(rng, size);
+        let number = rng.below(3);
+        let (width, height) = layer.plane(number);
+        let output_pitch = pitch(rng, width, height);
+        let first_pitch = pitch(rng, width, height);
+        // One pitch for both frames half of the time, so that their bytes are near each other.
+        let (one, another) = (rng.once_in(2), pitch(rng, width, height));
+        let second_pitch = if one { first_pitch } else { another };
+        let first = plane(rng, first_pitch, width, height);
+        let second = near(rng, &first, (height - 1) * second_pitch + width);
+        let (output, time) = (plane(rng, output_pitch, width, height), time(rng));
+        Self {
+            layer: T::layer(layer, rng),
+            plane: number,
+            output,
+            output_pitch,
+            first,
+            first_pitch,
+            second,
+            second_pitch,
+            time,
         }
+    }
+
+    /// Rows 1 to 3.
+    pub fn refusal_before_lengths(&self) -> u64 {
+        let row = self.layer.plane(self.plane).0;
+        let pitches = [self.output_pitch, self.first_pitch, self.second_pitch];
+        let wrong = || pitches.into_iter().any(|pitch| wrong_pitch(pitch, row));
+        match self.layer.refusal(self.plane) {
+            0 if self.layer.wrong_pitches() || wrong() => 3,
+            number => number,
+        }
+    }
+
+    pub fn lent(&mut self) -> (LentLayer<'_, T>, PlaneMut<'_>, Frames<'_>) {
+        let output = PlaneMut {
+            data: &mut self.output,
+            pitch: self.output_pitch,
+        };
+        let plane = |data, pitch| Plane { data, pitch };
+        let frames = Frames {
+            first: plane(&self.first, self.first_pitch),
+            second: plane(&self.second, self.second_pitch),
+            time: self.time,
+        };
+        (self.layer.lent(), output, frames)
     }
 }
 
-impl Case for Unpeel {
-    const NAME: &'static str = "unpeel";
+impl<T: Number> Case for Unpeel<T> {
+    const NAME: &'static str = T::UNPEEL;
     const NUMBERS: &'static [usize] = &[0, 1, 2, 3, 4, 6];
     const WRITTEN: &'static [&'static str] = &["output"];
 
     fn random(rng: &mut Rng) -> Self {
-        let numbers = UnpeelNumbers::random(rng);
-        Self {
-            layer: numbers.layer.to_bytes(rng),
-            plane: numbers.plane,
-            output: numbers.output,
-            output_pitch: numbers.output_pitch,
-            first: numbers.first,
-            first_pitch: numbers.first_pitch,
-            second: numbers.second,
-            second_pitch: numbers.second_pitch,
-            time: numbers.time,
-        }
+        let size = sizes(rng, 16);
+        Self::sized(rng, size)
     }
 
     fn lengths(&self) -> Vec<Length> {
-        let mut lengths = self.numbers().lengths();
-        lengths.splice(..3, self.layer.lengths());
-        lengths
+        let [luma, chroma1, chroma2] = self.layer.lengths();
+        let pitches = [self.output_pitch, self.first_pitch, self.second_pitch];
+        let [output, first, second] = pitches.map(|pitch| self.layer.bytes(self.plane, pitch));
+        vec![luma, chroma1, chroma2, output, first, second]
     }
 
     fn ours(&mut self) -> u64 {
-        ffi::unpeel::call(
-            &self.layer.luma,
-            &self.layer.chroma1,
-            &self.layer.chroma2,
-            self.layer.luma_pitch,
-            self.layer.chroma_pitch,
-            self.layer.width,
-            self.layer.height,
-            self.layer.ratio,
-            self.plane,
-            &mut self.output,
-            self.output_pitch,
-            &self.first,
-            self.first_pitch,
-            &self.second,
-            self.second_pitch,
-            self.time,
-        )
+        let plane = self.plane;
+        let (layer, mut output, frames) = self.lent();
+        T::unpeel(&layer, plane, &mut output, frames)
     }
 
     fn refusal(&self) -> u64 {
-        self.numbers().refusal()
+        match self.refusal_before_lengths() {
+            0 if self.misfits() => 4,
+            0 if wrong_time(self.time) => 6,
+            number => number,
+        }
     }
 
     fn rust(&mut self) -> u64 {
-        let mut numbers = self.numbers();
-        let answer = numbers.rust();
-        self.output = numbers.output;
-        answer
+        let (plane, numbers) = (self.plane, T::numbers(&self.layer));
+        let (_, output, frames) = self.lent();
+        let layer = rust::Layer::from(numbers.lent());
+        layer.unpeel(plane, output.data, output.pitch, &frames.into());
+        numbers.layered(plane) * 256
     }
 }

@@ -3,56 +3,40 @@ use Rattle.assemble.proofs.Whole.{refused, ready, ran}
 use borrow.Author.Needs.{needs}
 use Rattle.assemble.proofs.assemble.Statement.{statement}
 use Rattle.assemble.proofs.assemble.Tie as tie
-use Rattle.assemble.proofs.assemble.Reads as reads
-use Rattle.assemble.proofs.assemble.Lts as lts
-use Rattle.assemble.proofs.assembled.Reads as assembled-reads
-use Rattle.assemble.proofs.grid.Reads as grid-reads
-use Rattle.assemble.proofs.refusal.Reads as refusal-reads
 
--- src/lib.rt:102:9
 refusal-requires : tie.Need-refusal-requires
 refusal-requires c κs = search needs
 
--- src/lib.rt:106:9
 same-length : tie.Need-same-length
 same-length c = search needs
 
--- src/lib.rt:106:9
 same-length-2 : tie.Need-same-length-2
 same-length-2 c = search needs
 
--- src/lib.rt:106:9
 same-length-3 : tie.Need-same-length-3
 same-length-3 c = search needs
 
--- src/lib.rt:106:9
 returns : tie.Need-returns
 returns c = refused _ _ _ _ _ _ _ _ _ (c .before .refusal .ensures) (c .if1 .taken)
 
--- src/lib.rt:108:9
 grid-requires : tie.Need-grid-requires
 grid-requires c κs = search needs
 
--- src/lib.rt:109:9
 assembled-requires : tie.Need-assembled-requires
 assembled-requires c κs =
     let g = c .before .before .before in
     let t = g .before in
     rw (g .grid .ensures) (ready _ _ _ _ _ _ _ _ (sym (t .before .refusal .ensures) ∙ t .if1 .left))
 
--- src/lib.rt:90:1
 same-length-4 : tie.Need-same-length-4
 same-length-4 c = search needs
 
--- src/lib.rt:90:1
 same-length-5 : tie.Need-same-length-5
 same-length-5 c = search needs
 
--- src/lib.rt:90:1
 same-length-6 : tie.Need-same-length-6
 same-length-6 c = search needs
 
--- src/lib.rt:90:1
 returns-2 : tie.Need-returns-2
 returns-2 c =
     let d = c .before .before .before in

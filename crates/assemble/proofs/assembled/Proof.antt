@@ -1,42 +1,30 @@
 use mathlib.Core.Path.{sym, refl, _∙_}
-use Rattle.rules.specs.Assembly.{totalsFit}
 use borrow.Author.Needs.{needs}
 use Rattle.assemble.proofs.assembled.Statement.{statement}
 use Rattle.assemble.proofs.assembled.Tie as tie
-use Rattle.assemble.proofs.assembled.Reads as reads
-use Rattle.assemble.proofs.assembled.Lts as lts
-use Rattle.store.proofs.store.Reads as store-reads
-use Rattle.offsets.proofs.totals_fit.Reads as totals-fit-reads
 
--- src/lib.rt:82:8
 totals-fit-requires : tie.Need-totals-fit-requires
 totals-fit-requires c κs = search needs
 
--- src/lib.rt:83:9
 store-requires : tie.Need-store-requires
 store-requires c κs =
     let s = c .before .before .before .before .before .before .before in
     (record { formed = s .pre .0; models-long = s .pre .1; cover-long = s .pre .2; fits = sym (c .before .before .before .before .totals-fit .ensures) ∙ c .before .before .before .if1 .taken }, s .pre .3)
 
--- src/lib.rt:84:9
 same-length : tie.Need-same-length
 same-length c = search needs
 
--- src/lib.rt:84:9
 same-length-2 : tie.Need-same-length-2
 same-length-2 c = search needs
 
--- src/lib.rt:84:9
 same-length-3 : tie.Need-same-length-3
 same-length-3 c = search needs
 
--- src/lib.rt:84:9
 returns : tie.Need-returns
 returns c =
     let t = c .before .before .before .before .before .before .before in
     record { number = sym (rw (← t .before .totals-fit .ensures, t .if1 .taken)); slices = c .before .before .before .store .ensures }
 
--- src/lib.rt:71:1
 returns-2 : tie.Need-returns-2
 returns-2 c =
     record { number = sym (rw (← c .before .totals-fit .ensures, c .if1 .left)); slices = record { luma-is = refl; first-is = refl; second-is = refl } }

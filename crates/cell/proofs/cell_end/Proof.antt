@@ -6,20 +6,13 @@ use Rattle.cell.proofs.Ends.{cell-end, ahead}
 use borrow.Author.Needs.{needs}
 use Rattle.cell.proofs.cell_end.Statement.{statement}
 use Rattle.cell.proofs.cell_end.Tie as tie
-use Rattle.cell.proofs.cell_end.Reads as reads
-use Rattle.cell.proofs.cell_end.Lts as lts
-use Rattle.cell.proofs.cell_of.Reads as cell-of-reads
-use Rattle.plane.proofs.place.Reads as place-reads
 
--- src/lib.rt:29:28
 cell-of-requires : tie.Need-cell-of-requires
 cell-of-requires c κs = search needs
 
--- src/lib.rt:29:9
 place-requires : tie.Need-place-requires
 place-requires c κs = omega (arith, c .cell-of .ensures, div-le-self (c .before .args .k) (c .before .args .side))
 
--- src/lib.rt:25:1
 returns : tie.Need-returns
 returns c =
     let a = c .before .before .before .args in
@@ -29,7 +22,6 @@ returns c =
     let far = ahead (a .k) (a .side) some in
     cell-end (a .k) (a .side) (a .size) (c .before .place .result) some (h .3) (omega arith) (omega arith) (omega arith)
 
--- src/lib.rt:25:1
 returns-2 : tie.Need-returns-2
 returns-2 c =
     let a = c .before .before .before .args in

@@ -1,17 +1,12 @@
 use Rattle.cell.proofs.cell_of.Statement.{statement}
 use Rattle.cell.proofs.cell_of.Tie as tie
-use Rattle.cell.proofs.cell_of.Reads as reads
-use Rattle.cell.proofs.cell_of.Lts as lts
 
--- src/lib.rt:13:1
 returns : tie.Need-returns
 returns c = rw (c .if1 .taken)
 
--- src/lib.rt:13:1
 returns-2 : tie.Need-returns-2
 returns-2 c = rw (c .if2 .taken)
 
--- src/lib.rt:13:1
 returns-3 : tie.Need-returns-3
 returns-3 c = rw (c .before .before .pre (c .before .if1 .left) (c .if2 .left))
 

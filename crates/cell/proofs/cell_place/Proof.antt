@@ -6,12 +6,7 @@ use lib.Dec.{eqb}
 use Rattle.cell.proofs.Ends.{cell-in, second-in}
 use Rattle.cell.proofs.cell_place.Statement.{statement}
 use Rattle.cell.proofs.cell_place.Tie as tie
-use Rattle.cell.proofs.cell_place.Reads as reads
-use Rattle.cell.proofs.cell_place.Lts as lts
-use Rattle.cell.proofs.cell_of.Reads as cell-of-reads
-use Rattle.plane.proofs.place.Reads as place-reads
 
--- src/lib.rt:38:9
 record Known (c : tie.After-cell-of2) : Type 0 where
   left : c .cell-of2 .result < c .before .before .args .p .shape .chroma
   narrow : c .before .before .args .p .shape .chroma ≤ 65536
@@ -39,19 +34,15 @@ known c =
 cell-of-requires : tie.Need-cell-of-requires
 cell-of-requires c κs = c .pre .0 .cell
 
--- src/lib.rt:39:9
 cell-of-requires-2 : tie.Need-cell-of-requires-2
 cell-of-requires-2 c κs = c .before .pre .0 .cell
 
--- src/lib.rt:40:18
 add-place : tie.Need-add-place
 add-place c = let k = known (c .before) in omega arith
 
--- src/lib.rt:40:5
 place-requires : tie.Need-place-requires
 place-requires c κs = let k = known (c .before) in omega arith
 
--- src/lib.rt:34:1
 returns : tie.Need-returns
 returns c =
     let s = c .before .before in

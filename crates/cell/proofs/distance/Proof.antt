@@ -6,20 +6,13 @@ use Rattle.rules.specs.Reading.{distance}
 use borrow.Author.Needs.{needs}
 use Rattle.cell.proofs.distance.Statement.{statement}
 use Rattle.cell.proofs.distance.Tie as tie
-use Rattle.cell.proofs.distance.Reads as reads
-use Rattle.cell.proofs.distance.Lts as lts
-use Rattle.cell.proofs.cell_place.Reads as cell-place-reads
-use Rattle.lent.proofs.entry.Reads as entry-reads
 
--- src/lib.rt:48:40
 cell-place-requires : tie.Need-cell-place-requires
 cell-place-requires c κs = search needs
 
--- src/lib.rt:48:5
 entry-requires : tie.Need-entry-requires
 entry-requires c κs = omega (arith, c .cell-place .ensures .inside, c .before .before .pre .2)
 
--- src/lib.rt:44:1
 returns : tie.Need-returns
 unfolding distance
 returns c =

@@ -3,10 +3,7 @@ use Rattle.lent.proofs.Signed.{back}
 use Rattle.cell.proofs.Ends.{gap-test}
 use Rattle.cell.proofs.near.Statement.{statement}
 use Rattle.cell.proofs.near.Tie as tie
-use Rattle.cell.proofs.near.Reads as reads
-use Rattle.cell.proofs.near.Lts as lts
 
--- src/lib.rt:59:1
 returns : tie.Need-returns
 returns c = rw (back w16 (c .args .d) (c .fits .d .sfits)) (gap-test (c .args .d) (c .fits .d .sfits))
 

@@ -1,78 +1,37 @@
--- `cells::byte_row` meets its contract. The invariant: the first dx cells are added. Assumes nothing.
+-- `cells::byte_row` meets its contract. Assumes nothing.
 use borrow.Author.Needs.{needs}
-use mathlib.Core.Path.{_≡_, refl}
-use Prim.Native.Nat.{_+_, _*_, _≤_, _<_, _-_}
-use lib.ListN.{getD}
-use native.Mathlib.Nat.{le-antisymm}
-use native.Mathlib.Numerals.{add-one}
-use native.Mathlib.Omega.{arith}
+use mathlib.Core.Path.{_≡_, refl, _∙_}
+use mathlib.Core.List.{List}
+use Prim.Native.Nat.{ℕ, zero, suc, _+_, _*_}
+use native.Mathlib.Nat.{add-assoc}
 use Rattle.rules.specs.Forms.{turns}
+use Rattle.run.specs.Run.{sumFrom}
 use Rattle.cells.specs.Cells.{rowSum}
 use Rattle.cells.proofs.byte_row.Statement.{statement}
 use Rattle.cells.proofs.byte_row.Tie as tie
 
-abbrev Inv-loop : tie.InvT-loop
-Inv-loop mask row mask-width x across total n₀ dx₀ n dx =
-    (n ≡ rowSum mask row mask-width x across dx total) × (dx ≤ across) × (n ≤ total + 255 * dx)
+-- the cells of a row follow one another
+row-run : (bytes : List ℕ) (row width x across n total : ℕ) → sumFrom bytes (row * width + x * across) n total ≡ rowSum bytes row width x across n total
+unfolding turns sumFrom rowSum
+row-run bytes row width x across zero total = refl
+row-run bytes row width x across (suc n) total = rw (row-run bytes row width x across n total, add-assoc (row * width) (x * across) n)
 
-abbrev μ-loop : tie.MeasureT-loop
-μ-loop mask row mask-width x across total n₀ dx₀ n dx = across - dx
+mul-place : tie.Need-mul-place
+mul-place c = search needs
 
--- the byte that is read
-byte : (c : tie.After-shared-slice-known2 Inv-loop μ-loop) → getD (c .before .before .before .before .before .before .args .mask .now) (c .before .place2 .result) 0 < 256
-byte c = c .shared-slice-known2 .given (c .before .place2 .result) .fits
-
-loop-holds : tie.Need-loop-holds Inv-loop μ-loop
-unfolding turns rowSum
-loop-holds c = (refl, omega arith, omega arith)
-
-place-requires : tie.Need-place-requires Inv-loop μ-loop
+place-requires : tie.Need-place-requires
 place-requires c κs = search needs
 
-place-requires-2 : tie.Need-place-requires-2 Inv-loop μ-loop
-place-requires-2 c κs = search needs
+run-requires : tie.Need-run-requires
+run-requires c κs = search needs
 
-shared-slice-read-n : tie.Need-shared-slice-read-n Inv-loop μ-loop
-shared-slice-read-n c = search needs
-
-cast-n : tie.Need-cast-n Inv-loop μ-loop
-cast-n c = omega (arith, byte c)
-
-add-n : tie.Need-add-n Inv-loop μ-loop
-add-n c = omega (arith, byte c)
-
-add-dx : tie.Need-add-dx Inv-loop μ-loop
-add-dx c = search needs
-
-loop-less : tie.Need-loop-less Inv-loop μ-loop
-loop-less c = search needs
-
-loop-again : tie.Need-loop-again Inv-loop μ-loop
-unfolding turns rowSum
-loop-again c =
-    let p = c .before in
-    let l = p .before .before .before in
-    (rw (l .loop .inv .0, p .place2 .ensures, p .before .place .ensures, add-one), omega arith, omega (arith, byte c))
-
-returns : tie.Need-returns Inv-loop μ-loop
+returns : tie.Need-returns
 returns c =
-    let l = c .before .loop in
-    let e = le-antisymm (l .inv .1) (c .loop-test .left) in
-    record { sum = rw e at (l .inv .0); few = omega (arith, e) }
+    let a = c .before .before .before .args in
+    record {
+      sum = c .run .ensures .sum ∙ rw (c .before .place .ensures) (row-run (a .mask .now) (a .row) (a .mask-width) (a .x) (a .across) (a .across) (a .total));
+      few = c .run .ensures .few;
+    }
 
 pub byte-row-spec : {M : Type 1} → statement M
-byte-row-spec =
-    tie.close
-    (tie.spec
-    Inv-loop
-    μ-loop
-    loop-holds
-    place-requires
-    place-requires-2
-    shared-slice-read-n
-    cast-n
-    add-n
-    add-dx
-    loop-less
-    loop-again
-    returns)
+byte-row-spec = tie.close (tie.spec mul-place place-requires run-requires returns)

@@ -3,96 +3,64 @@ use Rattle.table.proofs.Refusals.{row}
 use borrow.Author.Needs.{needs}
 use Rattle.fit.proofs.refusal.Statement.{statement}
 use Rattle.fit.proofs.refusal.Tie as tie
-use Rattle.fit.proofs.refusal.Reads as reads
-use Rattle.fit.proofs.refusal.Lts as lts
-use Rattle.assemble.proofs.sizes.Reads as sizes-reads
-use Rattle.fit.proofs.neighbour.Reads as neighbour-reads
-use Rattle.fit.proofs.settings.Reads as settings-reads
-use Rattle.fit.proofs.summed.Reads as summed-reads
-use Rattle.plane.proofs.ratioed.Reads as ratioed-reads
-use Rattle.plane.proofs.unless.Reads as unless-reads
-use Rattle.table.proofs.exact.Reads as exact-reads
-use Rattle.table.proofs.exact_cover.Reads as exact-cover-reads
-use Rattle.table.proofs.exact_pixels.Reads as exact-pixels-reads
-use Rattle.table.proofs.exact_planes.Reads as exact-planes-reads
 
--- src/lib.rt:101:9
 neighbour-requires : tie.Need-neighbour-requires
 neighbour-requires c κs = search needs
 
--- src/lib.rt:102:9
 summed-requires : tie.Need-summed-requires
 summed-requires c κs = search needs
 
--- src/lib.rt:103:9
 neighbour-requires-2 : tie.Need-neighbour-requires-2
 neighbour-requires-2 c κs = search needs
 
--- src/lib.rt:104:9
 exact-requires : tie.Need-exact-requires
 exact-requires c κs = search needs
 
--- src/lib.rt:105:9
-exact-pixels-requires : tie.Need-exact-pixels-requires
-exact-pixels-requires c κs = search needs
+is-product-requires : tie.Need-is-product-requires
+is-product-requires c κs = search needs
 
--- src/lib.rt:106:9
 exact-cover-requires : tie.Need-exact-cover-requires
 exact-cover-requires c κs = search needs
 
--- src/lib.rt:107:9
 exact-planes-requires : tie.Need-exact-planes-requires
 exact-planes-requires c κs = search needs
 
--- src/lib.rt:110:9
 settings-requires : tie.Need-settings-requires
 settings-requires c κs = search needs
 
--- src/lib.rt:114:57
 unless-requires : tie.Need-unless-requires
 unless-requires c κs = search needs
 
--- src/lib.rt:114:33
 unless-requires-2 : tie.Need-unless-requires-2
 unless-requires-2 c κs = search needs
 
--- src/lib.rt:114:9
 unless-requires-3 : tie.Need-unless-requires-3
 unless-requires-3 c κs = search needs
 
--- src/lib.rt:111:9
 unless-requires-4 : tie.Need-unless-requires-4
 unless-requires-4 c κs = search needs
 
--- src/lib.rt:116:66
 unless-requires-5 : tie.Need-unless-requires-5
 unless-requires-5 c κs = search needs
 
--- src/lib.rt:116:41
 unless-requires-6 : tie.Need-unless-requires-6
 unless-requires-6 c κs = search needs
 
--- src/lib.rt:116:9
 unless-requires-7 : tie.Need-unless-requires-7
 unless-requires-7 c κs = search needs
 
--- src/lib.rt:119:9
 sizes-requires : tie.Need-sizes-requires
 sizes-requires c κs = search needs
 
--- src/lib.rt:120:26
 ratioed-requires : tie.Need-ratioed-requires
 ratioed-requires c κs = search needs
 
--- src/lib.rt:120:9
 unless-requires-8 : tie.Need-unless-requires-8
 unless-requires-8 c κs = search needs
 
--- src/lib.rt:117:5
 unless-requires-9 : tie.Need-unless-requires-9
 unless-requires-9 c κs = search needs
 
--- src/lib.rt:73:1
 returns : tie.Need-returns
 unfolding fitTable
 returns c =
@@ -106,7 +74,7 @@ returns c =
     (row 4 _ (parts .before .unless6 .ensures) (lengths .before .before .summed .ensures)
     (row 4 _ (parts .before .before .unless5 .ensures) (lengths .before .neighbour2 .ensures)
     (row 4 _ (works .unless4 .ensures) (lengths .exact .ensures)
-    (row 4 _ (works .before .unless3 .ensures) (rest .before .before .before .exact-pixels .ensures)
+    (row 4 _ (works .before .unless3 .ensures) (rest .before .before .before .is-product .ensures)
     (row 4 _ (works .before .before .unless2 .ensures) (rest .before .before .exact-cover .ensures)
     (row 4 _ (works .before .before .before .unless .ensures) (rest .before .exact-planes .ensures) (rest .settings .ensures)))))))))
 
@@ -118,7 +86,7 @@ refusal-spec =
     summed-requires
     neighbour-requires-2
     exact-requires
-    exact-pixels-requires
+    is-product-requires
     exact-cover-requires
     exact-planes-requires
     settings-requires

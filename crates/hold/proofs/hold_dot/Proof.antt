@@ -1,19 +1,16 @@
 -- `hold::hold_dot` meets its contract. Assumes nothing.
-use mathlib.Core.Path.{_∙_}
+use mathlib.Core.Path.{sym, _∙_}
 use Prim.Native.Nat.{_*_, _≤_}
 use native.Mathlib.Omega.{arith}
+use borrow.Author.Tests.{eqb-true}
+use lib.Dec.{eqb}
 use Rattle.pass.specs.Pass.{put}
+use Rattle.laws.proofs.Accepted.{both}
 use Rattle.hold.specs.Call.{ruleBy}
-use Rattle.hold.proofs.Weights.{full-in, always}
+use Rattle.hold.proofs.Weights.{full-in, stays, always}
 use borrow.Author.Needs.{needs}
 use Rattle.hold.proofs.hold_dot.Statement.{statement}
 use Rattle.hold.proofs.hold_dot.Tie as tie
-
-place-requires : tie.Need-place-requires
-place-requires c κs = search needs
-
-shared-slice-read-kept : tie.Need-shared-slice-read-kept
-shared-slice-read-kept c = search needs
 
 byte-sum-requires : tie.Need-byte-sum-requires
 byte-sum-requires c κs = search needs
@@ -23,36 +20,58 @@ cell-count-requires c κs = search needs
 
 -- the full weight of the pixel's cells
 weight : (c : tie.After-cell-count)
-    → let a = c .before .before .before .before .before .before .args in (1 ≤ 255 * (a .across * a .down)) × (255 * (a .across * a .down) ≤ 16320)
+    → let a = c .before .before .before .before .args in (1 ≤ 255 * (a .across * a .down)) × (255 * (a .across * a .down) ≤ 16320)
 weight c =
-    let cells = c .before .before .before .before .before .before .pre .1 in
+    let cells = c .before .before .before .before .pre .1 in
     full-in _ _ (cells .some) (cells .small)
 
 mul-full : tie.Need-mul-full
 mul-full c = omega (arith, c .cell-count .ensures, weight c)
 
-weighed-requires : tie.Need-weighed-requires
-weighed-requires c κs =
-    let w = weight c in
-    rw (c .cell-count .ensures) (c .before .byte-sum .ensures .few, w .0, w .1)
+both-requires : tie.Need-both-requires
+both-requires c κs = search needs
 
 returns : tie.Need-returns
 unfolding put ruleBy
 returns c =
-    let b = c .before .before in
-    let made = b .before .before .before .before .before .args .made in
+    let n = c .before .before in
+    let a = n .before .before .before .before .args in
+    let sum = n .before .byte-sum .result in
+    let full = 255 * n .cell-count .result in
+    let same = both (a .skip) (eqb sum full) (sym (c .before .both .ensures) ∙ c .if1 .taken) .1 in
+    stays (a .made) _ _ _ (rw (n .before .byte-sum .ensures .sum, n .cell-count .ensures) at (eqb-true sum full same))
+
+place-requires : tie.Need-place-requires
+place-requires c κs = search needs
+
+shared-slice-read-kept : tie.Need-shared-slice-read-kept
+shared-slice-read-kept c = search needs
+
+weighed-requires : tie.Need-weighed-requires
+weighed-requires c κs =
+    let n = c .before .before .before .before in
+    let w = weight n in
+    rw (n .cell-count .ensures) (n .before .byte-sum .ensures .few, w .0, w .1)
+
+returns-2 : tie.Need-returns-2
+unfolding put ruleBy
+returns-2 c =
+    let n = c .before .before .before .before .before in
+    let sum = n .before .byte-sum .ensures in
+    let made = n .before .before .before .before .args .made in
     c .weighed .ensures
-    ∙ rw (c .before .cell-count .ensures, b .byte-sum .ensures .sum, b .before .before .place .ensures)
-    (always _ made _ _ (rw (b .byte-sum .ensures .sum) at (b .byte-sum .ensures .few)) (weight (c .before) .0))
+    ∙ rw (n .cell-count .ensures, sum .sum, c .before .before .place .ensures) (always _ made _ _ (rw (sum .sum) at (sum .few)) (weight n .0))
 
 pub hold-dot-spec : {M : Type 1} → statement M
 hold-dot-spec =
     tie.close
     (tie.spec
-    place-requires
-    shared-slice-read-kept
     byte-sum-requires
     cell-count-requires
     mul-full
+    both-requires
+    returns
+    place-requires
+    shared-slice-read-kept
     weighed-requires
-    returns)
+    returns-2)

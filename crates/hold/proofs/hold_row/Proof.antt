@@ -13,11 +13,11 @@ use Rattle.hold.proofs.hold_row.Statement.{statement}
 use Rattle.hold.proofs.hold_row.Tie as tie
 
 abbrev Inv-loop : tie.InvT-loop
-Inv-loop output₀ output-pitch held held-pitch width mask mask-width across down y x₀ output x =
+Inv-loop output₀ output-pitch held held-pitch width mask mask-width across down skip y x₀ output x =
     RowPainted (ruleBy (planeOf held held-pitch) mask mask-width across down) output-pitch y x output₀ output × (x ≤ width) × (length output ≡ length output₀)
 
 abbrev μ-loop : tie.MeasureT-loop
-μ-loop output₀ output-pitch held held-pitch width mask mask-width across down y x₀ output x = width - x
+μ-loop output₀ output-pitch held held-pitch width mask mask-width across down skip y x₀ output x = width - x
 
 loop-holds : tie.Need-loop-holds Inv-loop μ-loop
 loop-holds c = (row-none _ _ _ _, omega arith, refl)

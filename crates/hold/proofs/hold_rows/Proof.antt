@@ -14,11 +14,11 @@ use Rattle.hold.proofs.hold_rows.Statement.{statement}
 use Rattle.hold.proofs.hold_rows.Tie as tie
 
 abbrev Inv-loop : tie.InvT-loop
-Inv-loop output₀ output-pitch held held-pitch width height mask mask-width across down y₀ output y =
+Inv-loop output₀ output-pitch held held-pitch width height mask mask-width across down skip y₀ output y =
     RowsPainted (ruleBy (planeOf held held-pitch) mask mask-width across down) output-pitch width y output₀ output × (y ≤ height) × (length output ≡ length output₀)
 
 abbrev μ-loop : tie.MeasureT-loop
-μ-loop output₀ output-pitch held held-pitch width height mask mask-width across down y₀ output y = height - y
+μ-loop output₀ output-pitch held held-pitch width height mask mask-width across down skip y₀ output y = height - y
 
 loop-holds : tie.Need-loop-holds Inv-loop μ-loop
 loop-holds c = (rows-none _ _ _ _, omega arith, refl)

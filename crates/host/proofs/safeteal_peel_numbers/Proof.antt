@@ -5,8 +5,8 @@ use Rattle.rules.specs.Host.{word as wordOf}
 use Rattle.host.proofs.safeteal_peel_numbers.Statement.{statement}
 use Rattle.host.proofs.safeteal_peel_numbers.Tie as tie
 
-peel-requires : tie.Need-peel-requires
-peel-requires c κs = search needs
+peel-of-requires : tie.Need-peel-of-requires
+peel-of-requires c κs = search needs
 
 word-requires : tie.Need-word-requires
 word-requires c κs = search needs
@@ -16,10 +16,10 @@ same-length c = search needs
 
 returns : tie.Need-returns
 returns c =
-    let d = c .before .before .before .peel .ensures in
+    let d = c .before .before .before .peel-of .ensures in
     record { told = c .word .ensures ∙ ap wordOf (d .answered); slice = d .bytes }
 
 pub safeteal-peel-numbers-spec : {M : Type 1} → statement M
 safeteal-peel-numbers-spec =
     tie.close
-    (tie.spec peel-requires word-requires same-length returns)
+    (tie.spec peel-of-requires word-requires same-length returns)

@@ -5,8 +5,8 @@ use Rattle.rules.specs.Host.{word as wordOf}
 use Rattle.host.proofs.safeteal_unpeel_numbers.Statement.{statement}
 use Rattle.host.proofs.safeteal_unpeel_numbers.Tie as tie
 
-unpeel-requires : tie.Need-unpeel-requires
-unpeel-requires c κs = search needs
+unpeel-of-requires : tie.Need-unpeel-of-requires
+unpeel-of-requires c κs = search needs
 
 word-requires : tie.Need-word-requires
 word-requires c κs = search needs
@@ -16,10 +16,10 @@ same-length c = search needs
 
 returns : tie.Need-returns
 returns c =
-    let d = c .before .before .before .unpeel .ensures in
+    let d = c .before .before .before .unpeel-of .ensures in
     record { told = c .word .ensures ∙ ap wordOf (d .answered); slice = d .bytes }
 
 pub safeteal-unpeel-numbers-spec : {M : Type 1} → statement M
 safeteal-unpeel-numbers-spec =
     tie.close
-    (tie.spec unpeel-requires word-requires same-length returns)
+    (tie.spec unpeel-of-requires word-requires same-length returns)

@@ -1,16 +1,13 @@
 use borrow.Author.Needs.{needs}
-use mathlib.Core.Path.{_≡_, refl, sym, ap, _∙_}
+use mathlib.Core.Path.{_≡_, refl, ap, _∙_}
 use mathlib.Core.List.{List, _++_, append-nil}
-use Prim.Native.Nat.{ℕ, _≤_, _-_, _+_}
-use native.Mathlib.Nat.{le-antisymm}
+use Prim.Native.Nat.{ℕ, _≤_, _-_}
 use native.Mathlib.Omega.{arith}
 use borrow.Author.Fill.{fill-none, fill-more}
 use lib.ListN.{length, set, drop, replicate, length-set}
 use lib.Seq.{drop-length}
 use Rattle.keep.proofs.blank.Statement.{statement}
 use Rattle.keep.proofs.blank.Tie as tie
-use Rattle.keep.proofs.blank.Reads as reads
-use Rattle.keep.proofs.blank.Lts as lts
 
 abbrev Inv-loop : tie.InvT-loop
 Inv-loop cover₀ k₀ cover k =
@@ -19,23 +16,18 @@ Inv-loop cover₀ k₀ cover k =
 abbrev μ-loop : tie.MeasureT-loop
 μ-loop cover₀ k₀ cover k = length cover₀ - k
 
--- src/lib.rt:87:5
 loop-holds : tie.Need-loop-holds Inv-loop μ-loop
 loop-holds c = (fill-none (c .args .cover .now) 255, omega arith, refl)
 
--- src/lib.rt:88:9
 slice-write-cover : tie.Need-slice-write-cover Inv-loop μ-loop
 slice-write-cover c = search needs
 
--- src/lib.rt:89:9
 add-k : tie.Need-add-k Inv-loop μ-loop
 add-k c = search needs
 
--- src/lib.rt:87:5
 loop-less : tie.Need-loop-less Inv-loop μ-loop
 loop-less c = search needs
 
--- src/lib.rt:87:5
 loop-again : tie.Need-loop-again Inv-loop μ-loop
 loop-again c =
     let l = c .before in
@@ -43,11 +35,9 @@ loop-again c =
     let long = inv .2 in
     (ap (λ (t : List ℕ). set t (l .loop .k) 255) (inv .0) ∙ fill-more (l .loop .k) 255 (l .before .args .cover .now) (omega arith), omega arith, simp length-set (inv .2))
 
--- src/lib.rt:83:1
 same-length : tie.Need-same-length Inv-loop μ-loop
 same-length c = search needs
 
--- src/lib.rt:83:1
 returns : tie.Need-returns Inv-loop μ-loop
 returns c =
     let l = c .before in

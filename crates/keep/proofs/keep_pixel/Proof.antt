@@ -7,41 +7,28 @@ use Rattle.keep.proofs.Steps.{step-none, step-some, cell-is, cell-in}
 use borrow.Author.Needs.{needs}
 use Rattle.keep.proofs.keep_pixel.Statement.{statement}
 use Rattle.keep.proofs.keep_pixel.Tie as tie
-use Rattle.keep.proofs.keep_pixel.Reads as reads
-use Rattle.keep.proofs.keep_pixel.Lts as lts
-use Rattle.keep.proofs.mark.Reads as mark-reads
-use Rattle.near.proofs.verdict_at.Reads as verdict-at-reads
-use Rattle.plane.proofs.place.Reads as place-reads
-use Rattle.table.proofs.cells.Reads as cells-reads
 
--- src/lib.rt:42:9
 place-requires : tie.Need-place-requires
 place-requires c κs = search needs
 
--- src/lib.rt:43:8
 slice-read-if1 : tie.Need-slice-read-if1
 slice-read-if1 c =
     let s = c .before .before .before .before .before in
     let a = s .args in
     omega (arith, c .before .place .ensures, pixel-in (a .models .now) (a .width) (a .height) (a .x) (a .y) (s .pre .1) (s .pre .2), s .pre .0 .kept-long)
 
--- src/lib.rt:44:9
 returns : tie.Need-returns
 returns c = step-none _ _ _ _ (rw (c .before .before .place .ensures) at (c .if1 .taken))
 
--- src/lib.rt:46:9
 verdict-at-requires : tie.Need-verdict-at-requires
 verdict-at-requires c κs = search needs
 
--- src/lib.rt:47:36
 cells-requires : tie.Need-cells-requires
 cells-requires c κs = search needs
 
--- src/lib.rt:47:9
 place-requires-2 : tie.Need-place-requires-2
 place-requires-2 c κs = search needs
 
--- src/lib.rt:48:5
 mark-requires : tie.Need-mark-requires
 mark-requires c κs =
     let p = c .before .before .before .before .before .before .before in
@@ -52,15 +39,12 @@ mark-requires c κs =
     let cell = rw cells at (c .before .before .place2 .ensures) in
     (at, omega (arith, cell, cell-in (a .width) (a .height) (a .x) (a .y) (s .pre .1) (s .pre .2), s .pre .0 .cover-long))
 
--- src/lib.rt:30:1
 same-length : tie.Need-same-length
 same-length c = search needs
 
--- src/lib.rt:30:1
 same-length-2 : tie.Need-same-length-2
 same-length-2 c = search needs
 
--- src/lib.rt:30:1
 returns-2 : tie.Need-returns-2
 returns-2 c =
     let m = c .before .before .before .before in

@@ -3,9 +3,8 @@ use Rattle.table.proofs.Turns.{turns-more}
 use borrow.Author.Needs.{needs}
 use mathlib.Core.Path.{_≡_, refl, _∙_}
 use mathlib.Core.List.{List}
-use Prim.Native.Nat.{ℕ, _≤_, _-_, _+_, _*_}
+use Prim.Native.Nat.{ℕ, _≤_, _-_, _*_}
 use native.Mathlib.Nat.{le-antisymm}
-use native.Mathlib.Numerals.{add-one}
 use native.Mathlib.Omega.{arith}
 use lib.ListN.{length}
 use Rattle.rules.specs.Forms.{turns, scanRow}
@@ -13,9 +12,6 @@ use Rattle.rules.specs.Assembly.{modelSlice}
 use Rattle.keep.specs.Pass.{stepAt}
 use Rattle.keep.proofs.keep_row.Statement.{statement}
 use Rattle.keep.proofs.keep_row.Tie as tie
-use Rattle.keep.proofs.keep_row.Reads as reads
-use Rattle.keep.proofs.keep_row.Lts as lts
-use Rattle.keep.proofs.keep_pixel.Reads as keep-pixel-reads
 
 abbrev Inv-loop : tie.InvT-loop
 Inv-loop kept₀ cover₀ models width height y x₀ kept cover x =
@@ -25,27 +21,22 @@ Inv-loop kept₀ cover₀ models width height y x₀ kept cover x =
 abbrev μ-loop : tie.MeasureT-loop
 μ-loop kept₀ cover₀ models width height y x₀ kept cover x = width - x
 
--- src/lib.rt:64:5
 loop-holds : tie.Need-loop-holds Inv-loop μ-loop
 unfolding turns scanRow
 loop-holds c = (refl, omega arith, refl, refl)
 
--- src/lib.rt:65:9
 keep-pixel-requires : tie.Need-keep-pixel-requires Inv-loop μ-loop
 keep-pixel-requires c κs =
     let l = c .before .before .before in
     let s = l .before .before .before .before in
     (still-sound (s .pre .0) (l .loop .inv .2) (l .loop .inv .3), c .before .before .loop-test .taken, s .pre .1)
 
--- src/lib.rt:66:9
 add-x : tie.Need-add-x Inv-loop μ-loop
 add-x c = search needs
 
--- src/lib.rt:64:5
 loop-less : tie.Need-loop-less Inv-loop μ-loop
 loop-less c = search needs
 
--- src/lib.rt:64:5
 loop-again : tie.Need-loop-again Inv-loop μ-loop
 unfolding scanRow
 loop-again c =
@@ -54,15 +45,12 @@ loop-again c =
     let inv = l .loop .inv in
     (turns-more _ _ _ _ _ (inv .0) (pixel .ensures), omega arith, pixel .kept .0 ∙ inv .2, pixel .kept .1 .0 ∙ inv .3)
 
--- src/lib.rt:52:1
 same-length : tie.Need-same-length Inv-loop μ-loop
 same-length c = search needs
 
--- src/lib.rt:52:1
 same-length-2 : tie.Need-same-length-2 Inv-loop μ-loop
 same-length-2 c = search needs
 
--- src/lib.rt:52:1
 returns : tie.Need-returns Inv-loop μ-loop
 returns c =
     let at-loop = c .before .loop in

@@ -12,9 +12,6 @@ use Rattle.keep.specs.Pass.{stepAt}
 use Rattle.keep.proofs.Steps.{still-sound}
 use Rattle.keep.proofs.keep_rows.Statement.{statement}
 use Rattle.keep.proofs.keep_rows.Tie as tie
-use Rattle.keep.proofs.keep_rows.Reads as reads
-use Rattle.keep.proofs.keep_rows.Lts as lts
-use Rattle.keep.proofs.keep_row.Reads as keep-row-reads
 
 abbrev Inv-loop : tie.InvT-loop
 Inv-loop kept₀ cover₀ models width height y₀ kept cover y =
@@ -24,27 +21,22 @@ Inv-loop kept₀ cover₀ models width height y₀ kept cover y =
 abbrev μ-loop : tie.MeasureT-loop
 μ-loop kept₀ cover₀ models width height y₀ kept cover y = height - y
 
--- src/lib.rt:76:5
 loop-holds : tie.Need-loop-holds Inv-loop μ-loop
 unfolding turns scan
 loop-holds c = (refl, omega arith, refl, refl)
 
--- src/lib.rt:77:9
 keep-row-requires : tie.Need-keep-row-requires Inv-loop μ-loop
 keep-row-requires c κs =
     let l = c .before .before .before in
     let s = l .before .before .before .before in
     (still-sound (s .pre) (l .loop .inv .2) (l .loop .inv .3), c .before .before .loop-test .taken)
 
--- src/lib.rt:78:9
 add-y : tie.Need-add-y Inv-loop μ-loop
 add-y c = search needs
 
--- src/lib.rt:76:5
 loop-less : tie.Need-loop-less Inv-loop μ-loop
 loop-less c = search needs
 
--- src/lib.rt:76:5
 loop-again : tie.Need-loop-again Inv-loop μ-loop
 unfolding scan
 loop-again c =
@@ -52,15 +44,12 @@ loop-again c =
     let inv = c .before .before .before .before .before .before .before .before .loop .inv in
     (turns-more _ _ _ _ _ (inv .0) (row .ensures), omega arith, row .kept .0 ∙ inv .2, row .kept .1 .0 ∙ inv .3)
 
--- src/lib.rt:71:1
 same-length : tie.Need-same-length Inv-loop μ-loop
 same-length c = search needs
 
--- src/lib.rt:71:1
 same-length-2 : tie.Need-same-length-2 Inv-loop μ-loop
 same-length-2 c = search needs
 
--- src/lib.rt:71:1
 returns : tie.Need-returns Inv-loop μ-loop
 returns c =
     let at-loop = c .before .loop in

@@ -2,62 +2,46 @@ use mathlib.Core.Path.{sym}
 use borrow.Author.Needs.{needs}
 use Rattle.keep.proofs.mark.Statement.{statement}
 use Rattle.keep.proofs.mark.Tie as tie
-use Rattle.keep.proofs.mark.Reads as reads
-use Rattle.keep.proofs.mark.Lts as lts
 
--- src/lib.rt:17:13
 enum-told : tie.Need-enum-told
 enum-told c = search needs
 
--- src/lib.rt:17:13
 slice-write-kept : tie.Need-slice-write-kept
 slice-write-kept c = search needs
 
--- src/lib.rt:18:13
 slice-write-cover : tie.Need-slice-write-cover
 slice-write-cover c = search needs
 
--- src/lib.rt:21:13
 enum-told-2 : tie.Need-enum-told-2
 enum-told-2 c = search needs
 
--- src/lib.rt:21:13
 slice-write-kept-2 : tie.Need-slice-write-kept-2
 slice-write-kept-2 c = search needs
 
--- src/lib.rt:24:13
 enum-told-3 : tie.Need-enum-told-3
 enum-told-3 c = search needs
 
--- src/lib.rt:24:13
 slice-write-kept-3 : tie.Need-slice-write-kept-3
 slice-write-kept-3 c = search needs
 
--- src/lib.rt:11:1
 same-length : tie.Need-same-length
 same-length c = search needs
 
--- src/lib.rt:11:1
 same-length-2 : tie.Need-same-length-2
 same-length-2 c = search needs
 
--- src/lib.rt:11:1
 returns : tie.Need-returns
 returns c = sym (simp (c .enum-told .given .1))
 
--- src/lib.rt:11:1
 same-length-3 : tie.Need-same-length-3
 same-length-3 c = search needs
 
--- src/lib.rt:11:1
 returns-2 : tie.Need-returns-2
 returns-2 c = sym (simp (c .enum-told2 .given .1))
 
--- src/lib.rt:11:1
 same-length-4 : tie.Need-same-length-4
 same-length-4 c = search needs
 
--- src/lib.rt:11:1
 returns-3 : tie.Need-returns-3
 returns-3 c = sym (simp (c .enum-told3 .given .1))
 

@@ -9,9 +9,6 @@ use Rattle.table.proofs.Turns.{turns-more}
 use Rattle.keep.specs.Pass.{resetStep}
 use Rattle.keep.proofs.reset.Statement.{statement}
 use Rattle.keep.proofs.reset.Tie as tie
-use Rattle.keep.proofs.reset.Reads as reads
-use Rattle.keep.proofs.reset.Lts as lts
-use Rattle.keep.proofs.reset_pixel.Reads as reset-pixel-reads
 
 abbrev Inv-loop : tie.InvT-loop
 Inv-loop models₀ kept at₀ models at =
@@ -20,35 +17,28 @@ Inv-loop models₀ kept at₀ models at =
 abbrev μ-loop : tie.MeasureT-loop
 μ-loop models₀ kept at₀ models at = length kept - at
 
--- src/lib.rt:109:5
 loop-holds : tie.Need-loop-holds Inv-loop μ-loop
 unfolding turns
 loop-holds c = (refl, omega arith, refl)
 
--- src/lib.rt:110:9
 reset-pixel-requires : tie.Need-reset-pixel-requires Inv-loop μ-loop
 reset-pixel-requires c κs = search needs
 
--- src/lib.rt:111:9
 add-at : tie.Need-add-at Inv-loop μ-loop
 add-at c = search needs
 
--- src/lib.rt:109:5
 loop-less : tie.Need-loop-less Inv-loop μ-loop
 loop-less c = search needs
 
--- src/lib.rt:109:5
 loop-again : tie.Need-loop-again Inv-loop μ-loop
 loop-again c =
     let pixel = c .before .before .reset-pixel in
     let inv = c .before .before .before .before .before .loop .inv in
     (turns-more _ _ _ _ _ (inv .0) (pixel .ensures), omega arith, pixel .kept .0 ∙ inv .2)
 
--- src/lib.rt:104:1
 same-length : tie.Need-same-length Inv-loop μ-loop
 same-length c = search needs
 
--- src/lib.rt:104:1
 returns : tie.Need-returns Inv-loop μ-loop
 returns c =
     let at-loop = c .before .loop in

@@ -8,11 +8,6 @@ use Rattle.layered_rows.proofs.Cells.{run-skip, near-all, far-all}
 use borrow.Author.Needs.{needs}
 use Rattle.layered_rows.proofs.cell_run.Statement.{statement}
 use Rattle.layered_rows.proofs.cell_run.Tie as tie
-use Rattle.layered_rows.proofs.cell_run.Reads as reads
-use Rattle.layered_rows.proofs.cell_run.Lts as lts
-use Rattle.cell.proofs.distance.Reads as distance-reads
-use Rattle.cell.proofs.near.Reads as near-reads
-use Rattle.layered_rows.proofs.run.Reads as run-reads
 
 -- src/lib.rt:86:19
 distance-requires : tie.Need-distance-requires
@@ -23,8 +18,8 @@ near-requires : tie.Need-near-requires
 near-requires c κs = search needs
 
 -- src/lib.rt:87:9
-run-requires : tie.Need-run-requires
-run-requires c κs =
+near-run-requires : tie.Need-near-run-requires
+near-run-requires c κs =
     let near = c .before .before in
     let s = near .before .before .before .before .before .before .before .before in
     let d = near .before .distance in
@@ -50,4 +45,4 @@ returns-2 c =
 
 pub cell-run-spec : {M : Type 1} → statement M
 cell-run-spec =
-    tie.close (tie.spec distance-requires near-requires run-requires same-length returns returns-2)
+    tie.close (tie.spec distance-requires near-requires near-run-requires same-length returns returns-2)

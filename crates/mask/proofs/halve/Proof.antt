@@ -6,23 +6,24 @@ use native.Mathlib.Numerals.{add-one}
 use native.Mathlib.Omega.{arith}
 use lib.ListN.{length, getD}
 use Rattle.rules.specs.Forms.{turns}
-use Rattle.pass.proofs.Tables.{filled, filled-length, filled-rest, filled-table}
+use Rattle.tables.specs.Filled.{filled}
+use Rattle.tables.proofs.Laws.{filled-length, filled-after, filled-all}
 use Rattle.mask.proofs.halve.Statement.{statement}
 use Rattle.mask.proofs.halve.Tie as tie
 
 abbrev Inv-loop : tie.InvT-loop
 Inv-loop still₀ k₀ still k =
-    (still ≡ filled (λ j. getD still₀ j 0 / 2) k still₀) × (k ≤ length still₀)
+    (still ≡ filled k (λ j. getD still₀ j 0 / 2) still₀) × (k ≤ length still₀)
 
 abbrev μ-loop : tie.MeasureT-loop
 μ-loop still₀ k₀ still k = length still₀ - k
 
 -- a list that is half done is as long
 long : (c : tie.At-loop Inv-loop μ-loop) → length (c .loop .still) ≡ length (c .before .args .still .now)
-long c = rw (c .loop .inv .0) (filled-length (λ j. getD (c .before .args .still .now) j 0 / 2) (c .loop .k) (c .before .args .still .now))
+long c = rw (c .loop .inv .0) (filled-length (λ j. getD (c .before .args .still .now) j 0 / 2) (c .before .args .still .now) (c .loop .k))
 
 loop-holds : tie.Need-loop-holds Inv-loop μ-loop
-unfolding turns
+unfolding filled turns
 loop-holds c = (refl, omega arith)
 
 slice-read-still : tie.Need-slice-read-still Inv-loop μ-loop
@@ -38,11 +39,11 @@ loop-less : tie.Need-loop-less Inv-loop μ-loop
 loop-less c = omega (arith, long (c .before .before))
 
 loop-again : tie.Need-loop-again Inv-loop μ-loop
-unfolding turns
+unfolding filled turns
 loop-again c =
     let l = c .before .before in
     let list = l .before .args .still .now in
-    let old = filled-rest (λ j. getD list j 0 / 2) (l .loop .k) list (l .loop .k) 0 (omega arith) in
+    let old = filled-after (λ j. getD list j 0 / 2) list (l .loop .k) (l .loop .k) 0 (omega arith) in
     (rw (l .loop .inv .0, old, add-one), omega (arith, long l))
 
 same-length : tie.Need-same-length Inv-loop μ-loop
@@ -53,7 +54,7 @@ returns c =
     let l = c .before in
     let list = l .before .args .still .now in
     let whole : l .loop .k ≡ length list = omega (arith, long l) in
-    rw whole at (l .loop .inv .0) ∙ filled-table (λ j. getD list j 0 / 2) (length list) list refl
+    rw whole at (l .loop .inv .0) ∙ filled-all (λ j. getD list j 0 / 2) list 0 (length list) refl
 
 pub halve-spec : {M : Type 1} → statement M
 halve-spec =

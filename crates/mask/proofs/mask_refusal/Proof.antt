@@ -35,8 +35,8 @@ both-requires-4 c κs = search needs
 both-requires-5 : tie.Need-both-requires-5
 both-requires-5 c κs = search needs
 
-exact-requires : tie.Need-exact-requires
-exact-requires c κs = search needs
+is-product-requires : tie.Need-is-product-requires
+is-product-requires c κs = search needs
 
 unless-requires : tie.Need-unless-requires
 unless-requires c κs = search needs
@@ -61,7 +61,7 @@ returns c = λ s.
       c .before .unless3 .ensures,
       c .before .before .unless2 .ensures,
       c .before .before .before .unless .ensures,
-      c .before .before .before .before .exact .ensures,
+      c .before .before .before .before .is-product .ensures,
       lengths .both5 .ensures,
       lengths .before .both4 .ensures,
       lengths .before .before .planed2 .ensures,
@@ -88,7 +88,7 @@ mask-refusal-spec =
     planed-requires-2
     both-requires-4
     both-requires-5
-    exact-requires
+    is-product-requires
     unless-requires
     unless-requires-2
     unless-requires-3

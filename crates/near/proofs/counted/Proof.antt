@@ -2,18 +2,13 @@ use mathlib.Core.Path.{sym}
 use borrow.Author.Needs.{needs}
 use Rattle.near.proofs.counted.Statement.{statement}
 use Rattle.near.proofs.counted.Tie as tie
-use Rattle.near.proofs.counted.Reads as reads
-use Rattle.near.proofs.counted.Lts as lts
 
--- src/lib.rt:61:12
 add-result : tie.Need-add-result
 add-result c = search needs
 
--- src/lib.rt:57:1
 returns : tie.Need-returns
 returns c = sym (simp (c .if1 .taken))
 
--- src/lib.rt:57:1
 returns-2 : tie.Need-returns-2
 returns-2 c = sym (simp (c .if1 .left))
 

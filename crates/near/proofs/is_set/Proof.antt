@@ -4,26 +4,16 @@ use Rattle.near.proofs.Pixel.{pixel-in, model-is}
 use borrow.Author.Needs.{needs}
 use Rattle.near.proofs.is_set.Statement.{statement}
 use Rattle.near.proofs.is_set.Tie as tie
-use Rattle.near.proofs.is_set.Reads as reads
-use Rattle.near.proofs.is_set.Lts as lts
-use Rattle.model.proofs.set.Reads as set-reads
-use Rattle.near.proofs.beside.Reads as beside-reads
-use Rattle.near.proofs.model_at.Reads as model-at-reads
-use Rattle.plane.proofs.place.Reads as place-reads
 
--- src/lib.rt:51:9
 beside-requires : tie.Need-beside-requires
 beside-requires c κs = search needs
 
--- src/lib.rt:52:9
 beside-requires-2 : tie.Need-beside-requires-2
 beside-requires-2 c κs = search needs
 
--- src/lib.rt:53:33
 place-requires : tie.Need-place-requires
 place-requires c κs = search needs
 
--- src/lib.rt:53:16
 model-at-requires : tie.Need-model-at-requires
 model-at-requires c κs =
     let s = c .before .before .before .before in
@@ -33,11 +23,9 @@ model-at-requires c κs =
     let column = c .before .beside2 .ensures in
     omega (arith, c .place .ensures, pixel-in (a .models .now) (a .width) (a .height) (c .before .beside2 .result) (c .before .before .beside .result) (column .1) (row .1), h .long)
 
--- src/lib.rt:53:5
 set-requires : tie.Need-set-requires
 set-requires c κs = search needs
 
--- src/lib.rt:47:1
 returns : tie.Need-returns
 returns c =
     let p = c .before .before in

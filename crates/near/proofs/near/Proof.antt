@@ -1,6 +1,6 @@
 use borrow.Author.Needs.{needs}
 use mathlib.Core.Path.{_≡_, refl, _∙_}
-use Prim.Native.Nat.{_≤_, _-_, _+_, _*_}
+use Prim.Native.Nat.{_≤_, _-_, _*_}
 use native.Mathlib.Nat.{le-antisymm}
 use native.Mathlib.Numerals.{add-one}
 use native.Mathlib.Omega.{arith}
@@ -11,10 +11,6 @@ use Rattle.near.specs.Verdict.{nearBelow}
 use Rattle.near.proofs.Pixel.{few}
 use Rattle.near.proofs.near.Statement.{statement}
 use Rattle.near.proofs.near.Tie as tie
-use Rattle.near.proofs.near.Reads as reads
-use Rattle.near.proofs.near.Lts as lts
-use Rattle.near.proofs.counted.Reads as counted-reads
-use Rattle.near.proofs.is_set.Reads as is-set-reads
 
 abbrev Inv-loop : tie.InvT-loop
 Inv-loop models width height x y n₀ side₀ n side =
@@ -23,28 +19,22 @@ Inv-loop models width height x y n₀ side₀ n side =
 abbrev μ-loop : tie.MeasureT-loop
 μ-loop models width height x y n₀ side₀ n side = 9 - side
 
--- src/lib.rt:71:5
 loop-holds : tie.Need-loop-holds Inv-loop μ-loop
 unfolding turns howMany nearBelow
 loop-holds c = (refl, omega arith, omega arith)
 
--- src/lib.rt:72:24
 is-set-requires : tie.Need-is-set-requires Inv-loop μ-loop
 is-set-requires c κs = search needs
 
--- src/lib.rt:72:9
 counted-requires : tie.Need-counted-requires Inv-loop μ-loop
 counted-requires c κs = search needs
 
--- src/lib.rt:73:9
 add-side : tie.Need-add-side Inv-loop μ-loop
 add-side c = search needs
 
--- src/lib.rt:71:5
 loop-less : tie.Need-loop-less Inv-loop μ-loop
 loop-less c = search needs
 
--- src/lib.rt:71:5
 loop-again : tie.Need-loop-again Inv-loop μ-loop
 unfolding turns howMany nearBelow
 loop-again c =
@@ -52,7 +42,6 @@ loop-again c =
     let inv = l .loop .inv in
     (c .counted .ensures ∙ rw (c .before .is-set .ensures, inv .0, add-one (l .loop .side)), rw (c .counted .ensures) (few (c .before .is-set .result) (l .loop .n) (l .loop .side) (inv .1)), omega arith)
 
--- src/lib.rt:65:1
 returns : tie.Need-returns Inv-loop μ-loop
 unfolding near nearBelow
 returns c =

@@ -13,13 +13,6 @@ use Rattle.near.proofs.Pixel.{pixel-in, verdict-is}
 use borrow.Author.Needs.{needs}
 use Rattle.near.proofs.verdict_at.Statement.{statement}
 use Rattle.near.proofs.verdict_at.Tie as tie
-use Rattle.near.proofs.verdict_at.Reads as reads
-use Rattle.near.proofs.verdict_at.Lts as lts
-use Rattle.model.proofs.is_plain.Reads as is-plain-reads
-use Rattle.model.proofs.set.Reads as set-reads
-use Rattle.near.proofs.model_at.Reads as model-at-reads
-use Rattle.near.proofs.near.Reads as near-reads
-use Rattle.plane.proofs.place.Reads as place-reads
 
 -- the definition, of the model that was read
 told : (c : tie.After-model-at) → verdictOf (modelSlice (c .before .before .before .args .models .now) (c .before .before .before .args .width * c .before .before .before .args .height)) (c .before .before .before .args .width, c .before .before .before .args .height) (c .before .before .before .args .y * c .before .before .before .args .width + c .before .before .before .args .x)
@@ -29,48 +22,39 @@ told c =
     let a = s .args in
     verdict-is (a .models .now) (a .width) (a .height) (a .x) (a .y) (s .pre .left) (s .pre .above) (c .model-at .result) (c .model-at .ensures ∙ rw (c .before .place .ensures))
 
--- src/lib.rt:83:30
 place-requires : tie.Need-place-requires
 place-requires c κs = search needs
 
--- src/lib.rt:83:9
 model-at-requires : tie.Need-model-at-requires
 model-at-requires c κs =
     let s = c .before .before in
     let a = s .args in
     omega (arith, c .place .ensures, pixel-in (a .models .now) (a .width) (a .height) (a .x) (a .y) (s .pre .left) (s .pre .above), s .pre .long)
 
--- src/lib.rt:84:8
 set-requires : tie.Need-set-requires
 set-requires c κs = search needs
 
--- src/lib.rt:85:17
 near-requires : tie.Need-near-requires
 near-requires c κs = search needs
 
--- src/lib.rt:86:13
 returns : tie.Need-returns
 returns c =
     let m = c .before .before .before .before in
     sym (told m ∙ rw (← c .before .before .before .set .ensures, c .before .before .if1 .taken, ← c .before .near .ensures, le-leb _ _ (c .if2 .taken)))
 
--- src/lib.rt:88:9
 returns-2 : tie.Need-returns-2
 returns-2 c =
     let m = c .before .before .before .before in
     sym (told m ∙ rw (← c .before .before .before .set .ensures, c .before .before .if1 .taken, ← c .before .near .ensures, lt-leb _ _ (c .if2 .left)))
 
--- src/lib.rt:90:8
 is-plain-requires : tie.Need-is-plain-requires
 is-plain-requires c κs = search needs
 
--- src/lib.rt:91:9
 returns-3 : tie.Need-returns-3
 returns-3 c =
     let m = c .before .before .before .before in
     sym (told m ∙ rw (← c .before .before .before .set .ensures, c .before .before .if1 .left, ← c .before .is-plain .ensures, c .if3 .taken))
 
--- src/lib.rt:79:1
 returns-4 : tie.Need-returns-4
 returns-4 c =
     let m = c .before .before .before .before in

@@ -1,23 +1,18 @@
 use borrow.Author.Needs.{needs}
-use mathlib.Core.Path.{_≡_, refl, sym, ap, _∙_}
-use Prim.Native.Nat.{_≤_, _-_, _+_, _*_}
+use mathlib.Core.Path.{_≡_, refl, _∙_}
+use Prim.Native.Nat.{_≤_, _-_}
 use native.Mathlib.Nat.{le-antisymm, mul-le-mul, add-zero}
 use native.Mathlib.Numerals.{add-one}
 use native.Mathlib.Omega.{arith}
 use mir.Syntax.{w32}
-use mir.Val.{toZ, ofZ}
+use mir.Val.{toZ}
 use Rattle.rules.specs.Forms.{turns}
-use Rattle.offsets.specs.Grid.{rowTotal, blockTotal}
+use Rattle.offsets.specs.Grid.{blockTotal}
 use Rattle.offsets.proofs.Signed.{back}
 use Rattle.offsets.proofs.Places.{luma-row, luma-column}
 use Rattle.offsets.proofs.Totals.{total-is, row-asks}
 use Rattle.offsets.proofs.chroma_total.Statement.{statement}
 use Rattle.offsets.proofs.chroma_total.Tie as tie
-use Rattle.offsets.proofs.chroma_total.Reads as reads
-use Rattle.offsets.proofs.chroma_total.Lts as lts
-use Rattle.float.proofs.of_size.Reads as of-size-reads
-use Rattle.plane.proofs.place.Reads as place-reads
-use Rattle.offsets.proofs.total_row.Reads as total-row-reads
 
 abbrev Inv-loop : tie.InvT-loop
 Inv-loop g models plane x y ratio share t₀ dy₀ t dy =
@@ -26,28 +21,22 @@ Inv-loop g models plane x y ratio share t₀ dy₀ t dy =
 abbrev μ-loop : tie.MeasureT-loop
 μ-loop g models plane x y ratio share t₀ dy₀ t dy = ratio - dy
 
--- src/lib.rt:64:32
 mul-of-size : tie.Need-mul-of-size Inv-loop μ-loop
 mul-of-size c = let r = c .before .pre .0 .ratio .1 in omega (arith, mul-le-mul r r)
 
--- src/lib.rt:64:9
 of-size-requires : tie.Need-of-size-requires Inv-loop μ-loop
 of-size-requires c κs = let r = c .before .pre .0 .ratio .1 in omega (arith, mul-le-mul r r)
 
--- src/lib.rt:67:5
 loop-holds : tie.Need-loop-holds Inv-loop μ-loop
 unfolding turns blockTotal
 loop-holds c = (refl, omega arith)
 
--- src/lib.rt:69:13
 place-requires : tie.Need-place-requires Inv-loop μ-loop
 place-requires c κs = search needs
 
--- src/lib.rt:71:13
 place-requires-2 : tie.Need-place-requires-2 Inv-loop μ-loop
 place-requires-2 c κs = search needs
 
--- src/lib.rt:68:13
 place-requires-3 : tie.Need-place-requires-3 Inv-loop μ-loop
 place-requires-3 c κs =
     let l = c .before .before .before in
@@ -59,7 +48,6 @@ place-requires-3 c κs =
     let k = luma-column (a .g) f (a .x) (a .y) 0 (l .loop .dy) (b .left) (b .above) (f .ratio .0) (c .before .before .loop-test .taken) in
     omega (arith, c .place2 .ensures, c .before .place .ensures)
 
--- src/lib.rt:73:9
 total-row-requires : tie.Need-total-row-requires Inv-loop μ-loop
 total-row-requires c κs =
     let l = c .before .before .before .before in
@@ -68,15 +56,12 @@ total-row-requires c κs =
     let asks = row-asks (a .g) (s .pre .0) (a .models .now) (s .pre .1) (a .plane) (a .x) (a .y) (l .loop .dy) (s .pre .2) (c .before .before .before .loop-test .taken) (toZ w32 (l .loop .t)) (rw (← l .before .of-size .ensures) (l .loop .inv .0)) in
     rw (c .place3 .ensures, c .before .place2 .ensures, c .before .before .place .ensures, add-zero) asks
 
--- src/lib.rt:74:9
 add-dy : tie.Need-add-dy Inv-loop μ-loop
 add-dy c = search needs
 
--- src/lib.rt:67:5
 loop-less : tie.Need-loop-less Inv-loop μ-loop
 loop-less c = search needs
 
--- src/lib.rt:67:5
 loop-again : tie.Need-loop-again Inv-loop μ-loop
 unfolding turns blockTotal
 loop-again c =
@@ -84,7 +69,6 @@ loop-again c =
     let l = p .before .before .before .before in
     (back w32 (c .total-row .result) (c .total-row .ok) ∙ c .total-row .ensures ∙ rw (p .place3 .ensures, p .before .place2 .ensures, p .before .before .place .ensures, add-zero, l .loop .inv .0, add-one), omega arith)
 
--- src/lib.rt:59:1
 returns : tie.Need-returns Inv-loop μ-loop
 returns c =
     let l = c .before in

@@ -3,15 +3,10 @@ use Rattle.offsets.proofs.Signed.{back}
 use borrow.Author.Needs.{needs}
 use Rattle.offsets.proofs.in_range.Statement.{statement}
 use Rattle.offsets.proofs.in_range.Tie as tie
-use Rattle.offsets.proofs.in_range.Reads as reads
-use Rattle.offsets.proofs.in_range.Lts as lts
-use Rattle.plane.proofs.both.Reads as both-reads
 
--- src/lib.rt:83:5
 both-requires : tie.Need-both-requires
 both-requires c κs = search needs
 
--- src/lib.rt:80:1
 returns : tie.Need-returns
 returns c = rw (back w32 (c .before .args .total) (c .before .fits .total .sfits)) at (c .both .ensures)
 

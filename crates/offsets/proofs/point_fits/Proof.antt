@@ -3,33 +3,22 @@ use Rattle.offsets.proofs.Signed.{back}
 use borrow.Author.Needs.{needs}
 use Rattle.offsets.proofs.point_fits.Statement.{statement}
 use Rattle.offsets.proofs.point_fits.Tie as tie
-use Rattle.offsets.proofs.point_fits.Reads as reads
-use Rattle.offsets.proofs.point_fits.Lts as lts
-use Rattle.plane.proofs.both.Reads as both-reads
-use Rattle.offsets.proofs.chroma_total.Reads as chroma-total-reads
-use Rattle.offsets.proofs.in_range.Reads as in-range-reads
 
--- src/lib.rt:92:18
 chroma-total-requires : tie.Need-chroma-total-requires
 chroma-total-requires c κs = search needs
 
--- src/lib.rt:92:9
 in-range-requires : tie.Need-in-range-requires
 in-range-requires c κs = search needs
 
--- src/lib.rt:93:18
 chroma-total-requires-2 : tie.Need-chroma-total-requires-2
 chroma-total-requires-2 c κs = search needs
 
--- src/lib.rt:93:9
 in-range-requires-2 : tie.Need-in-range-requires-2
 in-range-requires-2 c κs = search needs
 
--- src/lib.rt:91:5
 both-requires : tie.Need-both-requires
 both-requires c κs = search needs
 
--- src/lib.rt:87:1
 returns : tie.Need-returns
 returns c =
     let second = c .before .before .chroma-total2 in

@@ -1,5 +1,5 @@
 use borrow.Author.Needs.{needs}
-use mathlib.Core.Path.{_≡_, refl, sym, ap, _∙_}
+use mathlib.Core.Path.{_≡_, _∙_}
 use Prim.Native.Nat.{_≤_, _-_, _+_, _*_}
 use native.Mathlib.Nat.{le-antisymm, add-zero}
 use native.Mathlib.Omega.{arith}
@@ -8,10 +8,6 @@ use Rattle.offsets.specs.Grid.{fitsBelow}
 use Rattle.offsets.proofs.Totals.{fits-more}
 use Rattle.offsets.proofs.row_fits.Statement.{statement}
 use Rattle.offsets.proofs.row_fits.Tie as tie
-use Rattle.offsets.proofs.row_fits.Reads as reads
-use Rattle.offsets.proofs.row_fits.Lts as lts
-use Rattle.plane.proofs.both.Reads as both-reads
-use Rattle.offsets.proofs.point_fits.Reads as point-fits-reads
 
 abbrev Inv-loop : tie.InvT-loop
 Inv-loop g models y before half fits₀ x₀ fits x =
@@ -20,33 +16,26 @@ Inv-loop g models y before half fits₀ x₀ fits x =
 abbrev μ-loop : tie.MeasureT-loop
 μ-loop g models y before half fits₀ x₀ fits x = half - x
 
--- src/lib.rt:104:5
 loop-holds : tie.Need-loop-holds Inv-loop μ-loop
 loop-holds c = (rw add-zero (c .before .pre .3), omega arith)
 
--- src/lib.rt:105:34
 point-fits-requires : tie.Need-point-fits-requires Inv-loop μ-loop
 point-fits-requires c κs = search needs
 
--- src/lib.rt:105:9
 both-requires : tie.Need-both-requires Inv-loop μ-loop
 both-requires c κs = search needs
 
--- src/lib.rt:106:9
 add-x : tie.Need-add-x Inv-loop μ-loop
 add-x c = search needs
 
--- src/lib.rt:104:5
 loop-less : tie.Need-loop-less Inv-loop μ-loop
 loop-less c = search needs
 
--- src/lib.rt:104:5
 loop-again : tie.Need-loop-again Inv-loop μ-loop
 loop-again c =
     let l = c .before .before .before in
     (c .both .ensures ∙ rw (l .loop .inv .0, c .before .point-fits .ensures) (fits-more _ _ _ _ _), omega arith)
 
--- src/lib.rt:98:1
 returns : tie.Need-returns Inv-loop μ-loop
 returns c =
     let at-loop = c .before .loop in

@@ -9,9 +9,6 @@ use Rattle.offsets.proofs.Signed.{fits, again, term-size}
 use borrow.Author.Needs.{needs}
 use Rattle.offsets.proofs.term.Statement.{statement}
 use Rattle.offsets.proofs.term.Tie as tie
-use Rattle.offsets.proofs.term.Reads as reads
-use Rattle.offsets.proofs.term.Lts as lts
-use Rattle.offsets.proofs.stored_offset.Reads as stored-offset-reads
 
 -- what is stored is the term
 is-term : (c : tie.After-struct-told) → c .before .before .stored-offset .result .0 ≡ termOf (c .before .before .before .before .before .args .models .now) (c .before .before .before .before .before .args .plane) (c .before .before .before .before .before .args .share) (c .before .before .before .before .before .args .at)
@@ -21,37 +18,29 @@ is-term c = ap (λ (o : Offset). o .0) (c .before .before .stored-offset .ensure
 low : (c : tie.After-struct-told) → natAbs (c .before .before .stored-offset .result .0) ≤ 32767
 low c = rw (is-term c) (term-size _ _ _ _)
 
--- src/lib.rt:33:34
 mul-stored-offset : tie.Need-mul-stored-offset
 mul-stored-offset c = search needs
 
--- src/lib.rt:33:44
 add-stored-offset : tie.Need-add-stored-offset
 add-stored-offset c = search needs
 
--- src/lib.rt:33:34
 add-stored-offset-2 : tie.Need-add-stored-offset-2
 add-stored-offset-2 c = search needs
 
--- src/lib.rt:33:27
 mul-stored-offset-2 : tie.Need-mul-stored-offset-2
 mul-stored-offset-2 c = search needs
 
--- src/lib.rt:33:27
 shared-slice-read-stored-offset : tie.Need-shared-slice-read-stored-offset
 shared-slice-read-stored-offset c = search needs
 
--- src/lib.rt:33:9
 stored-offset-requires : tie.Need-stored-offset-requires
 stored-offset-requires c κs = search needs
 
--- src/lib.rt:34:5
 cast-result : tie.Need-cast-result
 cast-result c =
     let h = low c in
     rw (again w16 (c .before .before .stored-offset .result .0) (omega arith)) (fits w32 (c .before .before .stored-offset .result .0) (omega arith))
 
--- src/lib.rt:29:1
 returns : tie.Need-returns
 returns c =
     let h = low c in

@@ -11,9 +11,6 @@ use Rattle.offsets.specs.Grid.{rowTotal}
 use Rattle.offsets.proofs.Signed.{back, row-fits, row-more}
 use Rattle.offsets.proofs.total_row.Statement.{statement}
 use Rattle.offsets.proofs.total_row.Tie as tie
-use Rattle.offsets.proofs.total_row.Reads as reads
-use Rattle.offsets.proofs.total_row.Lts as lts
-use Rattle.offsets.proofs.term.Reads as term-reads
 
 abbrev Inv-loop : tie.InvT-loop
 Inv-loop models place ratio plane share total t₀ dx₀ t dx =
@@ -25,37 +22,29 @@ abbrev μ-loop : tie.MeasureT-loop
 few : (c : tie.After-term Inv-loop μ-loop) → natAbs (toZ w32 (ofZ w32 (c .before .before .before .before .args .total))) ≤ 524288
 few c = let s = c .before .before .before .before in rw (back w32 (s .args .total) (s .fits .total .sfits)) (s .pre .few)
 
--- src/lib.rt:51:5
 loop-holds : tie.Need-loop-holds Inv-loop μ-loop
 unfolding turns rowTotal
 loop-holds c = (refl, omega arith)
 
--- src/lib.rt:52:30
 add-term : tie.Need-add-term Inv-loop μ-loop
 add-term c = search needs
 
--- src/lib.rt:52:17
 term-requires : tie.Need-term-requires Inv-loop μ-loop
 term-requires c κs = search needs
 
--- src/lib.rt:52:13
 add-t : tie.Need-add-t Inv-loop μ-loop
 add-t c = row-fits _ _ _ _ _ _ (c .before .before .loop .t) _ (c .before .before .loop .inv .0) (c .term .ensures) (c .term .ok) (few c) (omega arith)
 
--- src/lib.rt:53:9
 add-dx : tie.Need-add-dx Inv-loop μ-loop
 add-dx c = search needs
 
--- src/lib.rt:51:5
 loop-less : tie.Need-loop-less Inv-loop μ-loop
 loop-less c = search needs
 
--- src/lib.rt:51:5
 loop-again : tie.Need-loop-again Inv-loop μ-loop
 loop-again c =
     (row-more _ _ _ _ _ _ (c .before .before .loop .t) _ (c .before .before .loop .inv .0) (c .term .ensures) (c .term .ok) (few c) (omega arith), omega arith)
 
--- src/lib.rt:38:1
 returns : tie.Need-returns Inv-loop μ-loop
 returns c =
     let at-loop = c .before .loop in

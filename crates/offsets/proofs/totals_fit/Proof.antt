@@ -1,6 +1,6 @@
 use borrow.Author.Needs.{needs}
-use mathlib.Core.Path.{_≡_, refl, sym, ap, _∙_}
-use Prim.Native.Nat.{_≤_, _-_, _+_, _*_}
+use mathlib.Core.Path.{_≡_, _∙_}
+use Prim.Native.Nat.{_≤_, _-_, _*_}
 use native.Mathlib.Nat.{le-antisymm, zero-mul, suc-mul}
 use native.Mathlib.Numerals.{add-one}
 use native.Mathlib.Omega.{arith}
@@ -10,9 +10,6 @@ use Rattle.offsets.specs.Grid.{fitsBelow}
 use Rattle.offsets.proofs.Totals.{fits-all}
 use Rattle.offsets.proofs.totals_fit.Statement.{statement}
 use Rattle.offsets.proofs.totals_fit.Tie as tie
-use Rattle.offsets.proofs.totals_fit.Reads as reads
-use Rattle.offsets.proofs.totals_fit.Lts as lts
-use Rattle.offsets.proofs.row_fits.Reads as row-fits-reads
 
 abbrev Inv-loop : tie.InvT-loop
 Inv-loop g models rows fits₀ y₀ fits y =
@@ -21,30 +18,24 @@ Inv-loop g models rows fits₀ y₀ fits y =
 abbrev μ-loop : tie.MeasureT-loop
 μ-loop g models rows fits₀ y₀ fits y = rows - y
 
--- src/lib.rt:118:5
 loop-holds : tie.Need-loop-holds Inv-loop μ-loop
 unfolding turns all fitsBelow
 loop-holds c = (rw zero-mul, omega arith)
 
--- src/lib.rt:119:9
 row-fits-requires : tie.Need-row-fits-requires Inv-loop μ-loop
 row-fits-requires c κs = search needs
 
--- src/lib.rt:120:9
 add-y : tie.Need-add-y Inv-loop μ-loop
 add-y c = search needs
 
--- src/lib.rt:118:5
 loop-less : tie.Need-loop-less Inv-loop μ-loop
 loop-less c = search needs
 
--- src/lib.rt:118:5
 loop-again : tie.Need-loop-again Inv-loop μ-loop
 loop-again c =
     let l = c .before .before in
     (rw (add-one (l .loop .y), suc-mul) (c .row-fits .ensures), omega arith)
 
--- src/lib.rt:112:1
 returns : tie.Need-returns Inv-loop μ-loop
 returns c =
     let l = c .before in

@@ -1,20 +1,24 @@
-use native.Mathlib.Nat.{div-zero}
+-- `plane::divided` meets its contract. Assumes nothing.
 use mathlib.Core.Path.{sym}
+use native.Mathlib.Nat.{div-zero, div-one}
 use borrow.Author.Needs.{needs}
 use Rattle.plane.proofs.divided.Statement.{statement}
 use Rattle.plane.proofs.divided.Tie as tie
 
--- src/lib.rt:63:29
-div-result : tie.Need-div-result
-div-result c = search needs
-
--- src/lib.rt:60:1
 returns : tie.Need-returns
 returns c = sym (simp (c .if1 .taken, div-zero))
 
--- src/lib.rt:60:1
 returns-2 : tie.Need-returns-2
-returns-2 c = search needs
+returns-2 c = sym (simp (c .if2 .taken, div-one))
+
+returns-3 : tie.Need-returns-3
+returns-3 c = rw (c .if3 .taken)
+
+div-result : tie.Need-div-result
+div-result c = search needs
+
+returns-4 : tie.Need-returns-4
+returns-4 c = search needs
 
 pub divided-spec : {M : Type 1} → statement M
-divided-spec = tie.close (tie.spec div-result returns returns-2)
+divided-spec = tie.close (tie.spec returns returns-2 div-result returns-3 returns-4)

@@ -1,19 +1,24 @@
-use native.Mathlib.Nat.{mod-zero}
+-- `plane::divides` meets its contract. Assumes nothing.
+use mathlib.Core.Path.{sym}
+use native.Mathlib.Nat.{mod-zero, mod-one}
 use borrow.Author.Needs.{needs}
 use Rattle.plane.proofs.divides.Statement.{statement}
 use Rattle.plane.proofs.divides.Tie as tie
 
--- src/lib.rt:70:34
-rem-result : tie.Need-rem-result
-rem-result c = search needs
-
--- src/lib.rt:67:1
 returns : tie.Need-returns
 returns c = simp (c .if1 .taken, mod-zero)
 
--- src/lib.rt:67:1
 returns-2 : tie.Need-returns-2
-returns-2 c = search needs
+returns-2 c = sym (simp (c .if2 .taken, mod-one))
+
+returns-3 : tie.Need-returns-3
+returns-3 c = rw (c .if3 .taken)
+
+rem-result : tie.Need-rem-result
+rem-result c = search needs
+
+returns-4 : tie.Need-returns-4
+returns-4 c = search needs
 
 pub divides-spec : {M : Type 1} → statement M
-divides-spec = tie.close (tie.spec rem-result returns returns-2)
+divides-spec = tie.close (tie.spec returns returns-2 rem-result returns-3 returns-4)

@@ -4,11 +4,9 @@ use borrow.Author.Needs.{needs}
 use Rattle.plane.proofs.layered.Statement.{statement}
 use Rattle.plane.proofs.layered.Tie as tie
 
--- src/lib.rt:111:5
 holds-requires : tie.Need-holds-requires
 holds-requires c κs = search needs
 
--- src/lib.rt:108:1
 returns : tie.Need-returns
 returns c = c .holds .ensures ∙ halved (c .before .args .size) (c .before .args .rows) (c .before .args .pitch)
 

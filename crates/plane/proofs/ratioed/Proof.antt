@@ -2,23 +2,18 @@ use borrow.Author.Needs.{needs}
 use Rattle.plane.proofs.ratioed.Statement.{statement}
 use Rattle.plane.proofs.ratioed.Tie as tie
 
--- src/lib.rt:89:9
 one-of-requires : tie.Need-one-of-requires
 one-of-requires c κs = search needs
 
--- src/lib.rt:90:9
 divides-requires : tie.Need-divides-requires
 divides-requires c κs = search needs
 
--- src/lib.rt:91:9
 divides-requires-2 : tie.Need-divides-requires-2
 divides-requires-2 c κs = search needs
 
--- src/lib.rt:88:5
 all-requires : tie.Need-all-requires
 all-requires c κs = search needs
 
--- src/lib.rt:85:1
 returns : tie.Need-returns
 returns c = cc
 

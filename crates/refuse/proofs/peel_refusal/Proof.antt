@@ -3,50 +3,34 @@ use Rattle.rules.specs.Forms.{each}
 use borrow.Author.Needs.{needs}
 use Rattle.refuse.proofs.peel_refusal.Statement.{statement}
 use Rattle.refuse.proofs.peel_refusal.Tie as tie
-use Rattle.refuse.proofs.peel_refusal.Reads as reads
-use Rattle.refuse.proofs.peel_refusal.Lts as lts
-use Rattle.plane.proofs.both.Reads as both-reads
-use Rattle.refuse.proofs.over_length.Reads as over-length-reads
-use Rattle.refuse.proofs.over_pitch.Reads as over-pitch-reads
-use Rattle.refuse.proofs.rows.Reads as rows-reads
 
--- src/lib.rt:121:9
 over-pitch-requires : tie.Need-over-pitch-requires
 over-pitch-requires c κs = search needs
 
--- src/lib.rt:122:21
 over-pitch-requires-2 : tie.Need-over-pitch-requires-2
 over-pitch-requires-2 c κs = search needs
 
--- src/lib.rt:122:9
 both-requires : tie.Need-both-requires
 both-requires c κs = search needs
 
--- src/lib.rt:120:9
 both-requires-2 : tie.Need-both-requires-2
 both-requires-2 c κs = search needs
 
--- src/lib.rt:125:9
 over-length-requires : tie.Need-over-length-requires
 over-length-requires c κs = search needs
 
--- src/lib.rt:126:21
 over-length-requires-2 : tie.Need-over-length-requires-2
 over-length-requires-2 c κs = search needs
 
--- src/lib.rt:126:9
 both-requires-3 : tie.Need-both-requires-3
 both-requires-3 c κs = search needs
 
--- src/lib.rt:124:9
 both-requires-4 : tie.Need-both-requires-4
 both-requires-4 c κs = search needs
 
--- src/lib.rt:128:5
 rows-requires : tie.Need-rows-requires
 rows-requires c κs = search needs
 
--- src/lib.rt:105:1
 returns : tie.Need-returns
 unfolding peelRefusal firstFitting each
 returns c = rw (c .rows .ensures, c .before .both4 .ensures, c .before .before .both3 .ensures, c .before .before .before .over-length2 .ensures, c .before .before .before .before .over-length .ensures, c .before .before .before .before .before .both2 .ensures, c .before .before .before .before .before .before .both .ensures, c .before .before .before .before .before .before .before .over-pitch2 .ensures, c .before .before .before .before .before .before .before .before .over-pitch .ensures)

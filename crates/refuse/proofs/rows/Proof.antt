@@ -1,68 +1,46 @@
 use borrow.Author.Needs.{needs}
 use Rattle.refuse.proofs.rows.Statement.{statement}
 use Rattle.refuse.proofs.rows.Tie as tie
-use Rattle.refuse.proofs.rows.Reads as reads
-use Rattle.refuse.proofs.rows.Lts as lts
-use Rattle.plane.proofs.both.Reads as both-reads
-use Rattle.plane.proofs.ratioed.Reads as ratioed-reads
-use Rattle.plane.proofs.sized.Reads as sized-reads
-use Rattle.plane.proofs.unless.Reads as unless-reads
-use Rattle.refuse.proofs.lengths.Reads as lengths-reads
-use Rattle.refuse.proofs.pitches.Reads as pitches-reads
 
--- src/lib.rt:54:29
 sized-requires : tie.Need-sized-requires
 sized-requires c κs = search needs
 
--- src/lib.rt:54:52
 sized-requires-2 : tie.Need-sized-requires-2
 sized-requires-2 c κs = search needs
 
--- src/lib.rt:54:9
 both-requires : tie.Need-both-requires
 both-requires c κs = search needs
 
--- src/lib.rt:55:9
 ratioed-requires : tie.Need-ratioed-requires
 ratioed-requires c κs = search needs
 
--- src/lib.rt:56:9
 lengths-requires : tie.Need-lengths-requires
 lengths-requires c κs = search needs
 
--- src/lib.rt:57:41
 unless-requires : tie.Need-unless-requires
 unless-requires c κs = search needs
 
--- src/lib.rt:57:9
 unless-requires-2 : tie.Need-unless-requires-2
 unless-requires-2 c κs = search needs
 
--- src/lib.rt:58:34
 pitches-requires : tie.Need-pitches-requires
 pitches-requires c κs = search needs
 
--- src/lib.rt:58:46
 unless-requires-3 : tie.Need-unless-requires-3
 unless-requires-3 c κs = search needs
 
--- src/lib.rt:58:9
 unless-requires-4 : tie.Need-unless-requires-4
 unless-requires-4 c κs = search needs
 
--- src/lib.rt:62:33
 unless-requires-5 : tie.Need-unless-requires-5
 unless-requires-5 c κs = search needs
 
--- src/lib.rt:62:9
 unless-requires-6 : tie.Need-unless-requires-6
 unless-requires-6 c κs = search needs
 
--- src/lib.rt:59:5
 unless-requires-7 : tie.Need-unless-requires-7
 unless-requires-7 c κs = search needs
 
--- src/lib.rt:39:1
 returns : tie.Need-returns
 returns c = rw (c .unless7 .ensures, c .before .unless6 .ensures, c .before .before .unless5 .ensures, c .before .before .before .unless4 .ensures, c .before .before .before .before .unless3 .ensures, c .before .before .before .before .before .pitches .ensures, c .before .before .before .before .before .before .unless2 .ensures, c .before .before .before .before .before .before .before .unless .ensures, c .before .before .before .before .before .before .before .before .lengths .ensures, c .before .before .before .before .before .before .before .before .before .ratioed .ensures, c .before .before .before .before .before .before .before .before .before .before .both .ensures, c .before .before .before .before .before .before .before .before .before .before .before .sized2 .ensures, c .before .before .before .before .before .before .before .before .before .before .before .before .sized .ensures)
 

@@ -1,21 +1,13 @@
-use mathlib.Core.Path.{_≡_, sym, _∙_}
+use mathlib.Core.Path.{sym, _∙_}
 use native.Mathlib.Omega.{arith}
 use Rattle.rough.proofs.Pixels.{column-in, row-in, spot-in, pixel-in, none-found, one-found}
 use borrow.Author.Needs.{needs}
 use Rattle.rough.proofs.fit_pixel.Statement.{statement}
 use Rattle.rough.proofs.fit_pixel.Tie as tie
-use Rattle.rough.proofs.fit_pixel.Reads as reads
-use Rattle.rough.proofs.fit_pixel.Lts as lts
-use Rattle.plane.proofs.place.Reads as place-reads
-use Rattle.rough.proofs.put_found.Reads as put-found-reads
-use Rattle.window.proofs.offsets_of.Reads as offsets-of-reads
-use Rattle.window.proofs.window.Reads as window-reads
 
--- src/lib.rt:47:9
 place-requires : tie.Need-place-requires
 place-requires c κs = search needs
 
--- src/lib.rt:48:35
 window-requires : tie.Need-window-requires
 window-requires c κs =
     let s = c .before .before .before .before .before .before .before .before .before .before .before .before in
@@ -23,15 +15,12 @@ window-requires c κs =
     let q = s .pre .0 in
     (q .ready, omega (arith, c .place .ensures, pixel-in (a .g) (q .formed) (a .x) (a .y) (s .pre .1) (s .pre .2), q .own-long))
 
--- src/lib.rt:48:19
 enum-known-model : tie.Need-enum-known-model
 enum-known-model c = search needs
 
--- src/lib.rt:52:13
 enum-told : tie.Need-enum-told
 enum-told c = search needs
 
--- src/lib.rt:60:9
 put-found-requires : tie.Need-put-found-requires
 put-found-requires c κs =
     let s = c .before .before .before .before .before .before .before .before .before .before .before .before .before .before .before .before .before in
@@ -39,15 +28,12 @@ put-found-requires c κs =
     let q = s .pre .0 in
     omega (arith, c .before .before .before .before .before .place .ensures, pixel-in (a .g) (q .formed) (a .x) (a .y) (s .pre .1) (s .pre .2), q .models-long, q .kept-long)
 
--- src/lib.rt:61:9
 same-length : tie.Need-same-length
 same-length c = search needs
 
--- src/lib.rt:61:9
 same-length-2 : tie.Need-same-length-2
 same-length-2 c = search needs
 
--- src/lib.rt:61:9
 returns : tie.Need-returns
 returns c =
     let put = c .before .before .before .before in
@@ -56,15 +42,12 @@ returns c =
     let s = c .before .before .before .before .before .before .before .before .before .before .before .before .before .before .before .before .before .before .before .before .before .before in
     none-found _ _ (s .pre .0 .formed) _ _ _ _ _ (s .pre .1) (s .pre .2) _ (w .before .place .ensures) _ _ (sym (w .window .ensures) ∙ told .enum-told .given .1) (put .put-found .ensures)
 
--- src/lib.rt:63:29
 div-place : tie.Need-div-place
 div-place c = (c .before .before .before .before .before .before .before .before .before .before .before .before .before .before .before .before .before) .pre .0 .formed .ratio .0
 
--- src/lib.rt:63:50
 div-place-2 : tie.Need-div-place-2
 div-place-2 c = (c .before .before .before .before .before .before .before .before .before .before .before .before .before .before .before .before .before .before) .pre .0 .formed .ratio .0
 
--- src/lib.rt:63:9
 place-requires-2 : tie.Need-place-requires-2
 place-requires-2 c κs =
     let s = c .before .before .before .before .before .before .before .before .before .before .before .before .before .before .before .before .before .before in
@@ -72,7 +55,6 @@ place-requires-2 c κs =
     let f = s .pre .0 .formed in
     omega (arith, row-in (a .g) f (a .x) (a .y) (s .pre .1) (s .pre .2), column-in (a .g) f (a .x) (a .y) (s .pre .1) (s .pre .2), f .narrow, f .low)
 
--- src/lib.rt:64:9
 offsets-of-requires : tie.Need-offsets-of-requires
 offsets-of-requires c κs =
     let s = c .before .before .before .before .before .before .before .before .before .before .before .before .before .before .before .before .before .before .before in
@@ -80,7 +62,6 @@ offsets-of-requires c κs =
     let q = s .pre .0 in
     (q .ready, omega (arith, c .place2 .ensures, spot-in (a .g) (q .formed) (a .x) (a .y) (s .pre .1) (s .pre .2), q .chroma-long))
 
--- src/lib.rt:68:5
 put-found-requires-2 : tie.Need-put-found-requires-2
 put-found-requires-2 c κs =
     let s = c .before .before .before .before .before .before .before .before .before .before .before .before .before .before .before .before .before .before .before .before .before .before in
@@ -88,15 +69,12 @@ put-found-requires-2 c κs =
     let q = s .pre .0 in
     omega (arith, c .before .before .before .before .before .before .before .before .before .before .place .ensures, pixel-in (a .g) (q .formed) (a .x) (a .y) (s .pre .1) (s .pre .2), q .models-long, q .kept-long)
 
--- src/lib.rt:24:1
 same-length-3 : tie.Need-same-length-3
 same-length-3 c = search needs
 
--- src/lib.rt:24:1
 same-length-4 : tie.Need-same-length-4
 same-length-4 c = search needs
 
--- src/lib.rt:24:1
 returns-2 : tie.Need-returns-2
 returns-2 c =
     let put = c .before .before .before .before in

@@ -13,9 +13,6 @@ use Rattle.rough.specs.Search.{searchAt}
 use Rattle.rough.proofs.Pixels.{still-searching}
 use Rattle.rough.proofs.fit_row.Statement.{statement}
 use Rattle.rough.proofs.fit_row.Tie as tie
-use Rattle.rough.proofs.fit_row.Reads as reads
-use Rattle.rough.proofs.fit_row.Lts as lts
-use Rattle.rough.proofs.fit_pixel.Reads as fit-pixel-reads
 
 abbrev Inv-loop : tie.InvT-loop
 Inv-loop models₀ kept₀ previous previous1 previous2 own own1 own2 next next1 next2 counts g limit evidence strict y width x₀ models kept x =
@@ -26,27 +23,22 @@ abbrev μ-loop : tie.MeasureT-loop
 μ-loop models₀ kept₀ previous previous1 previous2 own own1 own2 next next1 next2 counts g limit evidence strict y width x₀ models kept x =
     width - x
 
--- src/lib.rt:96:5
 loop-holds : tie.Need-loop-holds Inv-loop μ-loop
 unfolding turns scanRow
 loop-holds c = (refl, omega arith, refl, refl)
 
--- src/lib.rt:97:9
 fit-pixel-requires : tie.Need-fit-pixel-requires Inv-loop μ-loop
 fit-pixel-requires c κs =
     let l = c .before .before .before in
     let s = c .before .before .before .before .before .before .before .before .before .before .before .before .before .before .before in
     (still-searching (s .pre .0) (l .loop .inv .2) (l .loop .inv .3), c .before .before .loop-test .taken, s .pre .1)
 
--- src/lib.rt:101:9
 add-x : tie.Need-add-x Inv-loop μ-loop
 add-x c = omega (arith, c .before .before .before .before .before .before .before .before .loop .inv .1, c .before .before .before .before .before .before .before .loop-test .taken, c .before .before .before .before .before .before .before .before .before .before .before .before .before .before .before .before .before .before .before .before .pre .0 .formed .wide .1)
 
--- src/lib.rt:96:5
 loop-less : tie.Need-loop-less Inv-loop μ-loop
 loop-less c = search needs
 
--- src/lib.rt:96:5
 loop-again : tie.Need-loop-again Inv-loop μ-loop
 unfolding scanRow
 loop-again c =
@@ -54,15 +46,12 @@ loop-again c =
     let inv = c .before .before .before .before .before .before .before .before .loop .inv in
     (turns-more _ _ _ _ _ (inv .0) (pixel .ensures), omega arith, pixel .kept .0 ∙ inv .2, pixel .kept .1 .0 ∙ inv .3)
 
--- src/lib.rt:72:1
 same-length : tie.Need-same-length Inv-loop μ-loop
 same-length c = search needs
 
--- src/lib.rt:72:1
 same-length-2 : tie.Need-same-length-2 Inv-loop μ-loop
 same-length-2 c = search needs
 
--- src/lib.rt:72:1
 returns : tie.Need-returns Inv-loop μ-loop
 returns c =
     let at-loop = c .before .loop in

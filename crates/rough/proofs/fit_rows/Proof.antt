@@ -14,9 +14,6 @@ use Rattle.rough.proofs.Pixels.{still-searching}
 use Rattle.rough.proofs.Whole.{searched}
 use Rattle.rough.proofs.fit_rows.Statement.{statement}
 use Rattle.rough.proofs.fit_rows.Tie as tie
-use Rattle.rough.proofs.fit_rows.Reads as reads
-use Rattle.rough.proofs.fit_rows.Lts as lts
-use Rattle.rough.proofs.fit_row.Reads as fit-row-reads
 
 abbrev Inv-loop : tie.InvT-loop
 Inv-loop models₀ kept₀ previous previous1 previous2 own own1 own2 next next1 next2 counts g limit evidence strict height y₀ models kept y =
@@ -27,27 +24,22 @@ abbrev μ-loop : tie.MeasureT-loop
 μ-loop models₀ kept₀ previous previous1 previous2 own own1 own2 next next1 next2 counts g limit evidence strict height y₀ models kept y =
     height - y
 
--- src/lib.rt:129:5
 loop-holds : tie.Need-loop-holds Inv-loop μ-loop
 unfolding turns scan
 loop-holds c = (refl, omega arith, refl, refl)
 
--- src/lib.rt:130:9
 fit-row-requires : tie.Need-fit-row-requires Inv-loop μ-loop
 fit-row-requires c κs =
     let l = c .before .before .before in
     let s = c .before .before .before .before .before .before .before .before .before .before .before .before .before .before .before in
     (still-searching (s .pre) (l .loop .inv .2) (l .loop .inv .3), c .before .before .loop-test .taken)
 
--- src/lib.rt:134:9
 add-y : tie.Need-add-y Inv-loop μ-loop
 add-y c = omega (arith, c .before .before .before .before .before .before .before .before .loop .inv .1, c .before .before .before .before .before .before .before .loop-test .taken, c .before .before .before .before .before .before .before .before .before .before .before .before .before .before .before .before .before .before .before .before .pre .formed .tall .1)
 
--- src/lib.rt:129:5
 loop-less : tie.Need-loop-less Inv-loop μ-loop
 loop-less c = search needs
 
--- src/lib.rt:129:5
 loop-again : tie.Need-loop-again Inv-loop μ-loop
 unfolding scan
 loop-again c =
@@ -55,15 +47,12 @@ loop-again c =
     let inv = c .before .before .before .before .before .before .before .before .loop .inv in
     (turns-more _ _ _ _ _ (inv .0) (row .ensures), omega arith, row .kept .0 ∙ inv .2, row .kept .1 .0 ∙ inv .3)
 
--- src/lib.rt:106:1
 same-length : tie.Need-same-length Inv-loop μ-loop
 same-length c = search needs
 
--- src/lib.rt:106:1
 same-length-2 : tie.Need-same-length-2 Inv-loop μ-loop
 same-length-2 c = search needs
 
--- src/lib.rt:106:1
 returns : tie.Need-returns Inv-loop μ-loop
 returns c =
     let at-loop = c .before .loop in

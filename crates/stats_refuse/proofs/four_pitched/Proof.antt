@@ -19,7 +19,7 @@ both-requires-2 : tie.Need-both-requires-2
 both-requires-2 c κs = search needs
 
 returns : tie.Need-returns
-returns c = rw (c .both2 .ensures, c .before .both .ensures, c .before .before .two-pitched .ensures, c .before .before .before .pitched2 .ensures, c .before .before .before .before .pitched .ensures)
+returns c = cc
 
 pub four-pitched-spec : {M : Type 1} → statement M
 four-pitched-spec =

@@ -38,8 +38,8 @@ two-planed-requires c κs = search needs
 four-planed-requires : tie.Need-four-planed-requires
 four-planed-requires c κs = search needs
 
-exact-three-requires : tie.Need-exact-three-requires
-exact-three-requires c κs = search needs
+exact-planes-requires : tie.Need-exact-planes-requires
+exact-planes-requires c κs = search needs
 
 motion-lengths-requires : tie.Need-motion-lengths-requires
 motion-lengths-requires c κs = search needs
@@ -106,7 +106,7 @@ returns c =
     (pitches .four-pitched .ensures ∙ rw across)
     (planes .before .two-planed .ensures)
     (planes .four-planed .ensures ∙ rw (across, down))
-    (tests .before .before .exact-three .ensures)
+    (tests .before .before .exact-planes .ensures)
     (tests .before .motion-lengths .ensures)
     (tests .motion-numbers .ensures)
     refl)
@@ -125,7 +125,7 @@ stats-refusal-spec =
     four-pitched-requires
     two-planed-requires
     four-planed-requires
-    exact-three-requires
+    exact-planes-requires
     motion-lengths-requires
     motion-numbers-requires
     unless-requires

@@ -13,7 +13,7 @@ each-of-two-requires : tie.Need-each-of-two-requires
 each-of-two-requires c κs = search needs
 
 returns : tie.Need-returns
-returns c = rw (c .each-of-two .ensures, c .before .planed2 .ensures, c .before .before .planed .ensures)
+returns c = cc
 
 pub two-planed-spec : {M : Type 1} → statement M
 two-planed-spec =

@@ -11,9 +11,6 @@ use Rattle.store.specs.Entries.{chromaEntry}
 use Rattle.store.proofs.Chroma.{point-in}
 use Rattle.store.proofs.chroma_run.Statement.{statement}
 use Rattle.store.proofs.chroma_run.Tie as tie
-use Rattle.store.proofs.chroma_run.Reads as reads
-use Rattle.store.proofs.chroma_run.Lts as lts
-use Rattle.store.proofs.put_chroma.Reads as put-chroma-reads
 
 abbrev Inv-loop : tie.InvT-loop
 Inv-loop chroma₀ g models cover plane y half x₀ chroma x =
@@ -23,26 +20,21 @@ Inv-loop chroma₀ g models cover plane y half x₀ chroma x =
 abbrev μ-loop : tie.MeasureT-loop
 μ-loop chroma₀ g models cover plane y half x₀ chroma x = half - x
 
--- src/lib.rt:104:5
 loop-holds : tie.Need-loop-holds Inv-loop μ-loop
 loop-holds c = (rw add-zero (paired-none _ _ _ _), omega arith, refl)
 
--- src/lib.rt:105:9
 put-chroma-requires : tie.Need-put-chroma-requires Inv-loop μ-loop
 put-chroma-requires c κs =
     let l = c .before .before in
     let s = l .before .before .before in
     (s .pre .0, l .loop .inv .2 ∙ s .pre .1, record { plane-is = (s .pre .2, s .pre .3); left = c .before .loop-test .taken; above = s .pre .4 })
 
--- src/lib.rt:106:9
 add-x : tie.Need-add-x Inv-loop μ-loop
 add-x c = search needs
 
--- src/lib.rt:104:5
 loop-less : tie.Need-loop-less Inv-loop μ-loop
 loop-less c = search needs
 
--- src/lib.rt:104:5
 loop-again : tie.Need-loop-again Inv-loop μ-loop
 loop-again c =
     let put = c .before .put-chroma in
@@ -54,11 +46,9 @@ loop-again c =
     let inside = point-in (a .g) (l .loop .x) (a .y) (c .before .before .before .loop-test .taken) (s .pre .4) in
     (rw (← add-assoc (a .y * a .g .half) (l .loop .x) 1) (paired-more (inv .0) (omega arith) (put .ensures)), omega arith, put .kept .0 ∙ inv .2)
 
--- src/lib.rt:91:1
 same-length : tie.Need-same-length Inv-loop μ-loop
 same-length c = search needs
 
--- src/lib.rt:91:1
 returns : tie.Need-returns Inv-loop μ-loop
 returns c =
     let at-loop = c .before .loop in

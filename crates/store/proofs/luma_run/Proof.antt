@@ -1,5 +1,5 @@
 use mathlib.Core.Path.{_≡_, refl, _∙_}
-use Prim.Native.Nat.{_≤_, _-_, _+_}
+use Prim.Native.Nat.{_≤_, _-_}
 use native.Mathlib.Nat.{le-antisymm}
 use native.Mathlib.Omega.{arith}
 use lib.ListN.{length}
@@ -9,9 +9,6 @@ use Rattle.table.proofs.Laws.{paired-none, paired-more}
 use borrow.Author.Needs.{needs}
 use Rattle.store.proofs.luma_run.Statement.{statement}
 use Rattle.store.proofs.luma_run.Tie as tie
-use Rattle.store.proofs.luma_run.Reads as reads
-use Rattle.store.proofs.luma_run.Lts as lts
-use Rattle.store.proofs.put_luma.Reads as put-luma-reads
 
 abbrev Inv-loop : tie.InvT-loop
 Inv-loop luma₀ models pixels lo hi at₀ luma at =
@@ -20,23 +17,18 @@ Inv-loop luma₀ models pixels lo hi at₀ luma at =
 abbrev μ-loop : tie.MeasureT-loop
 μ-loop luma₀ models pixels lo hi at₀ luma at = hi - at
 
--- src/lib.rt:37:5
 loop-holds : tie.Need-loop-holds Inv-loop μ-loop
 loop-holds c = (paired-none _ _ _ _, omega arith, omega arith, refl)
 
--- src/lib.rt:38:9
 put-luma-requires : tie.Need-put-luma-requires Inv-loop μ-loop
 put-luma-requires c κs = search needs
 
--- src/lib.rt:39:9
 add-at : tie.Need-add-at Inv-loop μ-loop
 add-at c = search needs
 
--- src/lib.rt:37:5
 loop-less : tie.Need-loop-less Inv-loop μ-loop
 loop-less c = search needs
 
--- src/lib.rt:37:5
 loop-again : tie.Need-loop-again Inv-loop μ-loop
 loop-again c =
     let put = c .before .put-luma in
@@ -46,11 +38,9 @@ loop-again c =
     let kept = put .kept .0 in
     (paired-more (inv .0) (omega arith) (put .ensures), omega arith, omega arith, put .kept .0 ∙ inv .3)
 
--- src/lib.rt:32:1
 same-length : tie.Need-same-length Inv-loop μ-loop
 same-length c = search needs
 
--- src/lib.rt:32:1
 returns : tie.Need-returns Inv-loop μ-loop
 returns c =
     let at-loop = c .before .loop in

@@ -10,37 +10,25 @@ use Rattle.store.proofs.Chroma.{point-in, first-is, second-is, total-fi
 use borrow.Author.Needs.{needs}
 use Rattle.store.proofs.put_chroma.Statement.{statement}
 use Rattle.store.proofs.put_chroma.Tie as tie
-use Rattle.store.proofs.put_chroma.Reads as reads
-use Rattle.store.proofs.put_chroma.Lts as lts
-use Rattle.plane.proofs.place.Reads as place-reads
-use Rattle.store.proofs.tail.Reads as tail-reads
-use Rattle.table.proofs.put_pair.Reads as put-pair-reads
-use Rattle.offsets.proofs.chroma_total.Reads as chroma-total-reads
 
--- src/lib.rt:83:9
 place-requires : tie.Need-place-requires
 place-requires c κs = search needs
 
--- src/lib.rt:84:9
 place-requires-2 : tie.Need-place-requires-2
 place-requires-2 c κs = search needs
 
--- src/lib.rt:85:17
 chroma-total-requires : tie.Need-chroma-total-requires
 chroma-total-requires c κs = search needs
 
--- src/lib.rt:85:17
 cast-first : tie.Need-cast-first
 cast-first c =
     let s = c .before .before .before .before .before in
     let a = s .args in
     rw (back w32 (c .chroma-total .result) (c .chroma-total .ok), c .chroma-total .ensures) (total-fits (a .g) (a .models .now) (a .cover .now) (a .plane) (a .x) (a .y) (s .pre .0) (s .pre .2))
 
--- src/lib.rt:86:9
 tail-requires : tie.Need-tail-requires
 tail-requires c κs = search needs
 
--- src/lib.rt:87:5
 put-pair-requires : tie.Need-put-pair-requires
 put-pair-requires c κs =
     let s = c .before .before .before .before .before .before .before in
@@ -48,11 +36,9 @@ put-pair-requires c κs =
     let long = s .pre .1 in
     omega (arith, c .before .before .before .before .place .ensures, c .before .before .before .place2 .ensures, point-in (a .g) (a .x) (a .y) (s .pre .2 .left) (s .pre .2 .above))
 
--- src/lib.rt:71:1
 same-length : tie.Need-same-length
 same-length c = search needs
 
--- src/lib.rt:71:1
 returns : tie.Need-returns
 returns c =
     let t = c .before .before .before .before in

@@ -4,57 +4,40 @@ use Rattle.store.proofs.Luma.{gain-is, offset-is}
 use borrow.Author.Needs.{needs}
 use Rattle.store.proofs.put_luma.Statement.{statement}
 use Rattle.store.proofs.put_luma.Tie as tie
-use Rattle.store.proofs.put_luma.Reads as reads
-use Rattle.store.proofs.put_luma.Lts as lts
-use Rattle.store.proofs.stored_gain.Reads as stored-gain-reads
-use Rattle.table.proofs.put_pair.Reads as put-pair-reads
-use Rattle.offsets.proofs.stored_offset.Reads as stored-offset-reads
 
--- src/lib.rt:26:35
 mul-stored-gain : tie.Need-mul-stored-gain
 mul-stored-gain c = search needs
 
--- src/lib.rt:26:28
 mul-stored-gain-2 : tie.Need-mul-stored-gain-2
 mul-stored-gain-2 c = search needs
 
--- src/lib.rt:26:28
 shared-slice-read-stored-gain : tie.Need-shared-slice-read-stored-gain
 shared-slice-read-stored-gain c = search needs
 
--- src/lib.rt:26:9
 stored-gain-requires : tie.Need-stored-gain-requires
 stored-gain-requires c κs = search needs
 
--- src/lib.rt:27:46
 mul-stored-offset : tie.Need-mul-stored-offset
 mul-stored-offset c = search needs
 
--- src/lib.rt:27:46
 add-stored-offset : tie.Need-add-stored-offset
 add-stored-offset c = search needs
 
--- src/lib.rt:27:39
 mul-stored-offset-2 : tie.Need-mul-stored-offset-2
 mul-stored-offset-2 c = search needs
 
--- src/lib.rt:27:39
 shared-slice-read-stored-offset : tie.Need-shared-slice-read-stored-offset
 shared-slice-read-stored-offset c = search needs
 
--- src/lib.rt:27:9
 stored-offset-requires : tie.Need-stored-offset-requires
 stored-offset-requires c κs = search needs
 
--- src/lib.rt:28:5
 put-pair-requires : tie.Need-put-pair-requires
 put-pair-requires c κs = search needs
 
--- src/lib.rt:22:1
 same-length : tie.Need-same-length
 same-length c = search needs
 
--- src/lib.rt:22:1
 returns : tie.Need-returns
 returns c =
     let offset = c .before .before .before .before .before .stored-offset in

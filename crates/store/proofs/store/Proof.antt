@@ -9,9 +9,6 @@ use Rattle.store.specs.Entries.{RowsStored}
 use Rattle.store.proofs.Rows.{rows-none, rows-join, rows-whole}
 use Rattle.store.proofs.store.Statement.{statement}
 use Rattle.store.proofs.store.Tie as tie
-use Rattle.store.proofs.store.Reads as reads
-use Rattle.store.proofs.store.Lts as lts
-use Rattle.store.proofs.store_row.Reads as store-row-reads
 
 abbrev Inv-loop : tie.InvT-loop
 Inv-loop luma₀ chroma1₀ chroma2₀ g models cover rows y₀ luma chroma1 chroma2 y =
@@ -21,11 +18,9 @@ Inv-loop luma₀ chroma1₀ chroma2₀ g models cover rows y₀ luma chroma1 chr
 abbrev μ-loop : tie.MeasureT-loop
 μ-loop luma₀ chroma1₀ chroma2₀ g models cover rows y₀ luma chroma1 chroma2 y = rows - y
 
--- src/lib.rt:145:5
 loop-holds : tie.Need-loop-holds Inv-loop μ-loop
 loop-holds c = (rows-none _ _ _ _, omega arith, refl, refl, refl)
 
--- src/lib.rt:146:9
 store-row-requires : tie.Need-store-row-requires Inv-loop μ-loop
 store-row-requires c κs =
     let l = c .before .before .before .before in
@@ -34,34 +29,27 @@ store-row-requires c κs =
     let room = s .pre .1 in
     (s .pre .0, record { luma-long = inv .2 ∙ room .luma-long; first-long = inv .3 ∙ room .first-long; second-long = inv .4 ∙ room .second-long }, c .before .before .before .loop-test .taken)
 
--- src/lib.rt:147:9
 add-y : tie.Need-add-y Inv-loop μ-loop
 add-y c = search needs
 
--- src/lib.rt:145:5
 loop-less : tie.Need-loop-less Inv-loop μ-loop
 loop-less c = search needs
 
--- src/lib.rt:145:5
 loop-again : tie.Need-loop-again Inv-loop μ-loop
 loop-again c =
     let row = c .before .before .before .store-row in
     let inv = c .before .before .before .before .before .before .before .before .loop .inv in
     (rows-join (inv .0) (row .ensures), omega arith, row .kept .0 ∙ inv .2, row .kept .1 .0 ∙ inv .3, row .kept .1 .1 .0 ∙ inv .4)
 
--- src/lib.rt:132:1
 same-length : tie.Need-same-length Inv-loop μ-loop
 same-length c = search needs
 
--- src/lib.rt:132:1
 same-length-2 : tie.Need-same-length-2 Inv-loop μ-loop
 same-length-2 c = search needs
 
--- src/lib.rt:132:1
 same-length-3 : tie.Need-same-length-3 Inv-loop μ-loop
 same-length-3 c = search needs
 
--- src/lib.rt:132:1
 returns : tie.Need-returns Inv-loop μ-loop
 returns c =
     let at-loop = c .before .loop in

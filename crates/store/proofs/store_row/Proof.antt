@@ -6,17 +6,10 @@ use Rattle.store.proofs.Rows.{pixels-small, band-in, row-done}
 use borrow.Author.Needs.{needs}
 use Rattle.store.proofs.store_row.Statement.{statement}
 use Rattle.store.proofs.store_row.Tie as tie
-use Rattle.store.proofs.store_row.Reads as reads
-use Rattle.store.proofs.store_row.Lts as lts
-use Rattle.plane.proofs.place.Reads as place-reads
-use Rattle.store.proofs.chroma_run.Reads as chroma-run-reads
-use Rattle.store.proofs.luma_run.Reads as luma-run-reads
 
--- src/lib.rt:123:9
 place-requires : tie.Need-place-requires
 place-requires c κs = search needs
 
--- src/lib.rt:124:9
 place-requires-2 : tie.Need-place-requires-2
 place-requires-2 c κs = search needs
 
@@ -50,27 +43,21 @@ luma-run-requires c κs =
     let luma-long = s .pre .1 .luma-long in
     rw (pixels-is (c .before)) (record { up = omega arith; inside = inside (c .before); models-long = omega arith; luma-long = omega arith })
 
--- src/lib.rt:127:5
 chroma-run-requires : tie.Need-chroma-run-requires
 chroma-run-requires c κs = search needs
 
--- src/lib.rt:128:5
 chroma-run-requires-2 : tie.Need-chroma-run-requires-2
 chroma-run-requires-2 c κs = search needs
 
--- src/lib.rt:111:1
 same-length : tie.Need-same-length
 same-length c = search needs
 
--- src/lib.rt:111:1
 same-length-2 : tie.Need-same-length-2
 same-length-2 c = search needs
 
--- src/lib.rt:111:1
 same-length-3 : tie.Need-same-length-3
 same-length-3 c = search needs
 
--- src/lib.rt:111:1
 returns : tie.Need-returns
 returns c =
     let l = c .before .before .before .before .before .before .before in

@@ -3,15 +3,10 @@ use Rattle.offsets.proofs.Signed.{back}
 use borrow.Author.Needs.{needs}
 use Rattle.store.proofs.stored_gain.Statement.{statement}
 use Rattle.store.proofs.stored_gain.Tie as tie
-use Rattle.store.proofs.stored_gain.Reads as reads
-use Rattle.store.proofs.stored_gain.Lts as lts
-use Rattle.float.proofs.fixed.Reads as fixed-reads
 
--- src/lib.rt:18:10
 fixed-requires : tie.Need-fixed-requires
 fixed-requires c κs = search needs
 
--- src/lib.rt:15:1
 returns : tie.Need-returns
 returns c = rw (back w16 (c .fixed .result) (c .fixed .ok), c .fixed .ensures)
 

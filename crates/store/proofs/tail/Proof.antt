@@ -8,35 +8,25 @@ use Rattle.store.proofs.Chroma.{tail-is, covered}
 use borrow.Author.Needs.{needs}
 use Rattle.store.proofs.tail.Statement.{statement}
 use Rattle.store.proofs.tail.Tie as tie
-use Rattle.store.proofs.tail.Reads as reads
-use Rattle.store.proofs.tail.Lts as lts
-use Rattle.store.proofs.cell.Reads as cell-reads
-use Rattle.table.proofs.cells.Reads as cells-reads
 
--- src/lib.rt:63:9
 returns : tie.Need-returns
 unfolding tailEntry
 returns c = sym (simp (eq-eqb _ _ (c .if1 .taken)))
 
--- src/lib.rt:65:9
 cells-requires : tie.Need-cells-requires
 cells-requires c κs = search needs
 
--- src/lib.rt:66:9
 cells-requires-2 : tie.Need-cells-requires-2
 cells-requires-2 c κs = search needs
 
--- src/lib.rt:67:5
 cell-requires : tie.Need-cell-requires
 cell-requires c κs =
     let s = c .before .before .before .before in
     rw (c .before .cells .ensures, c .cells2 .ensures) (covered (s .args .g) (s .args .cover .now) (s .pre .0) (s .pre .1))
 
--- src/lib.rt:67:5
 cast-result : tie.Need-cast-result
 cast-result c = search needs
 
--- src/lib.rt:58:1
 returns-2 : tie.Need-returns-2
 returns-2 c =
     let s = c .before .before .before .before .before in

@@ -13,10 +13,6 @@ use Rattle.stored.proofs.Sums.{block-none, block-more}
 use Rattle.stored.proofs.Places.{row-fits}
 use Rattle.stored.proofs.gain_block.Statement.{statement}
 use Rattle.stored.proofs.gain_block.Tie as tie
-use Rattle.stored.proofs.gain_block.Reads as reads
-use Rattle.stored.proofs.gain_block.Lts as lts
-use Rattle.plane.proofs.place.Reads as place-reads
-use Rattle.stored.proofs.gain_row.Reads as gain-row-reads
 
 abbrev Inv-loop : tie.InvT-loop
 Inv-loop p l lb x y t₀ dy₀ span t dy =
@@ -25,15 +21,12 @@ Inv-loop p l lb x y t₀ dy₀ span t dy =
 abbrev μ-loop : tie.MeasureT-loop
 μ-loop p l lb x y t₀ dy₀ span t dy = span - dy
 
--- src/lib.rt:43:5
 loop-holds : tie.Need-loop-holds Inv-loop μ-loop
 loop-holds c = (block-none _ _ _ _ _, omega arith, refl)
 
--- src/lib.rt:44:13
 place-requires : tie.Need-place-requires Inv-loop μ-loop
 place-requires c κs = search needs
 
--- src/lib.rt:45:9
 gain-row-requires : tie.Need-gain-row-requires Inv-loop μ-loop
 gain-row-requires c κs =
     let at-loop = c .before .before .loop in
@@ -43,15 +36,12 @@ gain-row-requires c κs =
       omega (arith, at-loop .inv .0 .small, c .before .loop-test .taken, h .span),
     )
 
--- src/lib.rt:46:9
 add-dy : tie.Need-add-dy Inv-loop μ-loop
 add-dy c = search needs
 
--- src/lib.rt:43:5
 loop-less : tie.Need-loop-less Inv-loop μ-loop
 loop-less c = search needs
 
--- src/lib.rt:43:5
 loop-again : tie.Need-loop-again Inv-loop μ-loop
 loop-again c =
     let at-loop = c .before .before .before .loop in
@@ -62,7 +52,6 @@ loop-again c =
       refl,
     )
 
--- src/lib.rt:36:1
 returns : tie.Need-returns Inv-loop μ-loop
 returns c =
     let at-loop = c .before .loop in

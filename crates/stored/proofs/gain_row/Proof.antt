@@ -1,7 +1,6 @@
 -- `stored::gain_row` meets its contract. The invariant: the first dx gains are added. Assumes nothing.
 use borrow.Author.Needs.{needs}
-use mathlib.Core.Path.{_≡_, _∙_}
-use Prim.Native.Nat.{_+_, _-_, _*_, _≤_}
+use Prim.Native.Nat.{_-_, _≤_}
 use native.Mathlib.Nat.{le-antisymm, mul-le-mul}
 use native.Mathlib.Omega.{arith}
 use lib.IntN.{natAbs, _+ℤ_}
@@ -13,10 +12,6 @@ use Rattle.stored.specs.Stored.{RowSummed}
 use Rattle.stored.proofs.Sums.{row-none, row-more, fits-sum, fits-wide}
 use Rattle.stored.proofs.gain_row.Statement.{statement}
 use Rattle.stored.proofs.gain_row.Tie as tie
-use Rattle.stored.proofs.gain_row.Reads as reads
-use Rattle.stored.proofs.gain_row.Lts as lts
-use Rattle.lent.proofs.entry.Reads as entry-reads
-use Rattle.plane.proofs.place.Reads as place-reads
 
 abbrev Inv-loop : tie.InvT-loop
 Inv-loop packed l lb row pitch x span total t₀ dx₀ t dx =
@@ -25,25 +20,20 @@ Inv-loop packed l lb row pitch x span total t₀ dx₀ t dx =
 abbrev μ-loop : tie.MeasureT-loop
 μ-loop packed l lb row pitch x span total t₀ dx₀ t dx = span - dx
 
--- src/lib.rt:27:5
 loop-holds : tie.Need-loop-holds Inv-loop μ-loop
 loop-holds c = (row-none _ _ _ _ _ _, omega arith)
 
--- src/lib.rt:28:43
 place-requires : tie.Need-place-requires Inv-loop μ-loop
 place-requires c κs = search needs
 
--- src/lib.rt:28:13
 place-requires-2 : tie.Need-place-requires-2 Inv-loop μ-loop
 place-requires-2 c κs =
     let f = c .before .before .before .before .pre .0 in
     omega (arith, c .place .ensures, mul-le-mul (f .left) (f .small))
 
--- src/lib.rt:29:17
 entry-requires : tie.Need-entry-requires Inv-loop μ-loop
 entry-requires c κs = omega (arith, c .place2 .ensures, c .before .place .ensures)
 
--- src/lib.rt:29:17
 cast-t : tie.Need-cast-t Inv-loop μ-loop
 cast-t c = rw (back w16 (c .entry .result) (c .entry .ok)) (fits-wide (c .entry .result) (c .entry .ok))
 
@@ -54,21 +44,17 @@ small c =
     let few = rw (back w32 (s .args .total) (s .fits .total .sfits)) at (at-loop .inv .0 .small) in
     omega (arith, few, s .pre .1, s .pre .0 .small)
 
--- src/lib.rt:29:13
 add-t : tie.Need-add-t Inv-loop μ-loop
 add-t c =
     let e = c .entry .result in
     rw (back w16 e (c .entry .ok), back w32 e (fits-wide e (c .entry .ok) .sfits)) (fits-sum (toZ w32 (c .before .before .before .before .loop .t)) e (small c) (c .entry .ok))
 
--- src/lib.rt:30:9
 add-dx : tie.Need-add-dx Inv-loop μ-loop
 add-dx c = search needs
 
--- src/lib.rt:27:5
 loop-less : tie.Need-loop-less Inv-loop μ-loop
 loop-less c = search needs
 
--- src/lib.rt:27:5
 loop-again : tie.Need-loop-again Inv-loop μ-loop
 loop-again c =
     let at-loop = c .before .before .before .before .loop in
@@ -79,7 +65,6 @@ loop-again c =
       omega arith,
     )
 
--- src/lib.rt:12:1
 returns : tie.Need-returns Inv-loop μ-loop
 returns c =
     let at-loop = c .before .loop in

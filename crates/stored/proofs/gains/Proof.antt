@@ -12,34 +12,24 @@ use Rattle.stored.proofs.Texels.{one-is, block-is}
 use borrow.Author.Needs.{needs}
 use Rattle.stored.proofs.gains.Statement.{statement}
 use Rattle.stored.proofs.gains.Tie as tie
-use Rattle.stored.proofs.gains.Reads as reads
-use Rattle.stored.proofs.gains.Lts as lts
-use Rattle.lent.proofs.entry.Reads as entry-reads
-use Rattle.plane.proofs.place.Reads as place-reads
-use Rattle.stored.proofs.gain_block.Reads as gain-block-reads
 
--- src/lib.rt:57:44
 span-is : (p : Plan) → Planned p → p .span ≡ ratioOf (p .shape)
 span-is p h = ap (λ (q : Plan). q .span) (h .is)
 
 place-requires : tie.Need-place-requires
 place-requires c κs = search needs
 
--- src/lib.rt:57:9
 entry-requires : tie.Need-entry-requires
 entry-requires c κs =
     let s = c .before .before .before .before in
     rw (c .place .ensures) (gain-in (s .args .p) (s .args .x) (s .args .y) (s .pre .0) (s .pre .1) _ (s .pre .2) (c .before .if1 .taken))
 
--- src/lib.rt:57:9
 cast-result : tie.Need-cast-result
 cast-result c = rw (back w16 (c .entry .result) (c .entry .ok)) (fits-wide (c .entry .result) (c .entry .ok))
 
--- src/lib.rt:59:9
 gain-block-requires : tie.Need-gain-block-requires
 gain-block-requires c κs = search needs
 
--- src/lib.rt:52:1
 returns : tie.Need-returns
 returns c =
     let s = c .before .before .before .before .before in
@@ -49,7 +39,6 @@ returns c =
       small = omega (arith, natAbs-le e (c .entry .ok));
     })
 
--- src/lib.rt:52:1
 returns-2 : tie.Need-returns-2
 returns-2 c =
     let s = c .before .before .before .before in

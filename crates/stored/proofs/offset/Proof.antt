@@ -7,52 +7,39 @@ use Rattle.stored.proofs.Places.{luma-in, chroma-in}
 use borrow.Author.Needs.{needs}
 use Rattle.stored.proofs.offset.Statement.{statement}
 use Rattle.stored.proofs.offset.Tie as tie
-use Rattle.stored.proofs.offset.Reads as reads
-use Rattle.stored.proofs.offset.Lts as lts
-use Rattle.lent.proofs.entry.Reads as entry-reads
-use Rattle.plane.proofs.place.Reads as place-reads
 
--- src/lib.rt:80:30
 add-place : tie.Need-add-place
 add-place c = search needs
 
--- src/lib.rt:80:13
 place-requires : tie.Need-place-requires
 place-requires c κs = search needs
 
--- src/lib.rt:81:23
 entry-requires : tie.Need-entry-requires
 entry-requires c κs =
     let s = c .before .before .before .before .before .before in
     rw (c .place .ensures) (luma-in _ _ _ (s .pre .0 .planned) (s .pre .1) _ (s .pre .0 .luma-long) (c .before .before .if1 .taken))
 
--- src/lib.rt:81:9
 returns : tie.Need-returns
 returns c = rw (back w16 (c .entry .result) (c .entry .ok), c .entry .ensures, c .before .place .ensures) (sym (simp (eq-eqb _ _ (c .before .before .before .if1 .taken))))
 
--- src/lib.rt:83:9
 place-requires-2 : tie.Need-place-requires-2
 place-requires-2 c κs = search needs
 
--- src/lib.rt:85:23
 entry-requires-2 : tie.Need-entry-requires-2
 entry-requires-2 c κs =
     let s = c .before .before .before .before .before .before in
     rw (c .before .place2 .ensures) (chroma-in _ _ _ (s .pre .0 .planned) (s .pre .1) _ (s .pre .0 .first-long) (c .before .before .if1 .left))
 
--- src/lib.rt:85:9
 returns-2 : tie.Need-returns-2
 returns-2 c =
     let else1 = c .before .before .before in
     rw (back w16 (c .entry2 .result) (c .entry2 .ok), c .entry2 .ensures, c .before .before .place2 .ensures) (sym (simp (ne-eqb _ _ (else1 .if1 .left), eq-eqb _ _ (c .before .if2 .taken))))
 
--- src/lib.rt:87:12
 entry-requires-3 : tie.Need-entry-requires-3
 entry-requires-3 c κs =
     let s = c .before .before .before .before .before .before in
     rw (c .before .place2 .ensures) (chroma-in _ _ _ (s .pre .0 .planned) (s .pre .1) _ (s .pre .0 .second-long) (c .before .before .if1 .left))
 
--- src/lib.rt:64:1
 returns-3 : tie.Need-returns-3
 returns-3 c =
     let else1 = c .before .before .before in

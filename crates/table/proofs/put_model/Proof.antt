@@ -3,62 +3,46 @@ use lib.ListN.{length-set}
 use borrow.Author.Needs.{needs}
 use Rattle.table.proofs.put_model.Statement.{statement}
 use Rattle.table.proofs.put_model.Tie as tie
-use Rattle.table.proofs.put_model.Reads as reads
-use Rattle.table.proofs.put_model.Lts as lts
 
--- src/lib.rt:73:13
 mul-k : tie.Need-mul-k
 mul-k c = search needs
 
--- src/lib.rt:74:5
 mul-models : tie.Need-mul-models
 mul-models c = search needs
 
--- src/lib.rt:74:5
 slice-write-models : tie.Need-slice-write-models
 slice-write-models c = search needs
 
--- src/lib.rt:75:12
 add-models : tie.Need-add-models
 add-models c = search needs
 
--- src/lib.rt:75:5
 mul-models-2 : tie.Need-mul-models-2
 mul-models-2 c = search needs
 
--- src/lib.rt:75:5
 slice-write-models-2 : tie.Need-slice-write-models-2
 slice-write-models-2 c = simp length-set (omega arith)
 
--- src/lib.rt:76:12
 add-models-2 : tie.Need-add-models-2
 add-models-2 c = search needs
 
--- src/lib.rt:76:5
 mul-models-3 : tie.Need-mul-models-3
 mul-models-3 c = search needs
 
--- src/lib.rt:76:5
 slice-write-models-3 : tie.Need-slice-write-models-3
 slice-write-models-3 c = simp length-set (omega arith)
 
--- src/lib.rt:77:12
 add-models-3 : tie.Need-add-models-3
 add-models-3 c = search needs
 
--- src/lib.rt:77:5
 mul-models-4 : tie.Need-mul-models-4
 mul-models-4 c = search needs
 
--- src/lib.rt:77:5
 slice-write-models-4 : tie.Need-slice-write-models-4
 slice-write-models-4 c = simp length-set (omega arith)
 
--- src/lib.rt:69:1
 same-length : tie.Need-same-length
 same-length c = search needs
 
--- src/lib.rt:69:1
 returns : tie.Need-returns
 returns c = search needs
 

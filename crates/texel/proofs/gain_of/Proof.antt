@@ -3,44 +3,46 @@ use native.Mathlib.Nat.{mul-le-mul}
 use native.Mathlib.Omega.{arith}
 use mir.Syntax.{w32}
 use Rattle.lent.proofs.Signed.{back}
-use Rattle.texel.proofs.Fifth.{in-float, scale-one}
+use Rattle.texel.proofs.Fifth.{in-float, scale-one, scale-four}
 use Rattle.texel.proofs.gain_of.Statement.{statement}
 use Rattle.texel.proofs.gain_of.Tie as tie
 use Rattle.texel.proofs.gain_of.Reads as reads
 use Rattle.texel.proofs.gain_of.Lts as lts
 use Rattle.float.proofs.of_size.Reads as of-size-reads
 
--- src/lib.rt:20:9
 int-to-float-result : tie.Need-int-to-float-result
 int-to-float-result c = let s = c .before .before in rw (back w32 (s .args .total) (s .fits .total .sfits)) (in-float (s .args .total) (s .pre .0))
 
--- src/lib.rt:22:9
 int-to-float-result-2 : tie.Need-int-to-float-result-2
-int-to-float-result-2 c = let s = c .before .before in rw (back w32 (s .args .total) (s .fits .total .sfits)) (in-float (s .args .total) (s .pre .0))
+int-to-float-result-2 c = let s = c .before .before .before in rw (back w32 (s .args .total) (s .fits .total .sfits)) (in-float (s .args .total) (s .pre .0))
 
--- src/lib.rt:22:40
+int-to-float-result-3 : tie.Need-int-to-float-result-3
+int-to-float-result-3 c = let s = c .before .before .before in rw (back w32 (s .args .total) (s .fits .total .sfits)) (in-float (s .args .total) (s .pre .0))
+
 mul-of-size : tie.Need-mul-of-size
-mul-of-size c = let s = c .before .before in omega (arith, mul-le-mul (s .pre .1) (s .pre .1))
+mul-of-size c = let s = c .before .before .before in omega (arith, mul-le-mul (s .pre .1) (s .pre .1))
 
--- src/lib.rt:22:25
 of-size-requires : tie.Need-of-size-requires
-of-size-requires c κs = let s = c .before .before in omega (arith, mul-le-mul (s .pre .1) (s .pre .1))
+of-size-requires c κs = let s = c .before .before .before in omega (arith, mul-le-mul (s .pre .1) (s .pre .1))
 
--- src/lib.rt:15:1
 returns : tie.Need-returns
 returns c = let s = c .before .before in rw (back w32 (s .args .total) (s .fits .total .sfits), c .before .if1 .taken, scale-one)
 
--- src/lib.rt:15:1
 returns-2 : tie.Need-returns-2
-returns-2 c = let s = c .before .before .before in rw (back w32 (s .args .total) (s .fits .total .sfits), c .of-size .ensures)
+returns-2 c = let s = c .before .before .before in rw (back w32 (s .args .total) (s .fits .total .sfits), c .before .if2 .taken, scale-four)
+
+returns-3 : tie.Need-returns-3
+returns-3 c = let s = c .before .before .before .before in rw (back w32 (s .args .total) (s .fits .total .sfits), c .of-size .ensures)
 
 pub gain-of-spec : {M : Type 1} → statement M
 gain-of-spec =
     tie.close
     (tie.spec
     int-to-float-result
+    returns
     int-to-float-result-2
+    returns-2
+    int-to-float-result-3
     mul-of-size
     of-size-requires
-    returns
-    returns-2)
+    returns-3)

@@ -1,6 +1,7 @@
 -- `texel::strong` meets its contract. Assumes nothing.
 use mathlib.Core.Path.{_≡_, sym, _∙_}
-use lib.IntN.{pos, negℤ}
+use lib.IntN.{pos, negℤ, _+ℤ_}
+use lib.Signed.{leZ}
 use mir.Syntax.{w32}
 use mir.Val.{toZ, ofZ}
 use Rattle.lent.proofs.Signed.{back}
@@ -10,9 +11,6 @@ use Rattle.texel.proofs.Fifth.{fifth-test, at-least, at-most, some-leas
 use borrow.Author.Needs.{needs}
 use Rattle.texel.proofs.strong.Statement.{statement}
 use Rattle.texel.proofs.strong.Tie as tie
-use Rattle.texel.proofs.strong.Reads as reads
-use Rattle.texel.proofs.strong.Lts as lts
-use Rattle.texel.proofs.least.Reads as least-reads
 
 least-is : (c : tie.After-least) → toZ w32 (ofZ w32 (c .least .result)) ≡ pos (leastOf (c .before .args .span))
 least-is c = back w32 (c .least .result) (c .least .ok) ∙ c .least .ensures
@@ -41,7 +39,11 @@ returns-2 c =
     let a = s .args in
     let total = back w32 (a .total) (s .fits .total .sfits) in
     let t = rw (least-is (c .before), total) at (c .if1 .left) in
-    rw (least-is (c .before), total, nought (negℤ (pos (leastOf (a .span)))), back w32 (negℤ (pos (leastOf (a .span)))) (minus-fits (a .span) .sfits), fifth-test (a .total) (s .pre .0) (a .span) (s .pre .1) (s .pre .2) (s .pre .3)) (at-most (leastOf (a .span)) (a .total) (some-least (a .span)) t)
+    let least = pos (leastOf (a .span)) in
+    let shown : leZ (toZ w32 (ofZ w32 (a .total))) (toZ w32 (ofZ w32 (pos 0 +ℤ negℤ (toZ w32 (ofZ w32 (c .before .least .result)))))) ≡ leZ (a .total) (negℤ least) = rw (least-is (c .before), total, nought (negℤ least), back w32 (negℤ least) (minus-fits (a .span) .sfits)) in
+    shown
+    ∙ at-most (leastOf (a .span)) (a .total) (some-least (a .span)) t
+    ∙ sym (fifth-test (a .total) (s .pre .0) (a .span) (s .pre .1) (s .pre .2) (s .pre .3))
 
 pub strong-spec : {M : Type 1} → statement M
 strong-spec = tie.close (tie.spec least-requires sub-result returns returns-2)

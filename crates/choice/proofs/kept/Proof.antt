@@ -1,0 +1,22 @@
+-- `choice::kept` meets its contract, by its callee's. Assumes nothing.
+use borrow.Author.Needs.{needs}
+use Rattle.choice.proofs.kept.Statement.{statement}
+use Rattle.choice.proofs.kept.Tie as tie
+
+abs-requires : tie.Need-abs-requires
+abs-requires c κs = search needs
+
+abs-requires-2 : tie.Need-abs-requires-2
+abs-requires-2 c κs = search needs
+
+returns : tie.Need-returns
+returns c = rw (← (c .before .abs .ensures), c .if1 .taken)
+
+returns-2 : tie.Need-returns-2
+returns-2 c = rw (← (c .before .before .before .abs .ensures), ← (c .abs2 .ensures), c .before .before .if1 .left, c .before .if2 .taken)
+
+returns-3 : tie.Need-returns-3
+returns-3 c = rw (← (c .before .before .abs .ensures), c .before .if1 .left, c .if2 .left)
+
+pub kept-spec : {M : Type 1} → statement M
+kept-spec = tie.close (tie.spec abs-requires abs-requires-2 returns returns-2 returns-3)

@@ -1,0 +1,1 @@
+// Demand 3 of the exported calls: its statement stands in specs/, its proof in proofs/.

@@ -1,0 +1,28 @@
+-- `hold::hold_fixed` meets its contract. Assumes nothing.
+use mathlib.Core.Path.{_≡_}
+use Rattle.cells.proofs.Covered.{steps-are}
+use borrow.Author.Needs.{needs}
+use Rattle.hold.proofs.hold_fixed.Statement.{statement}
+use Rattle.hold.proofs.hold_fixed.Tie as tie
+
+-- the steps are those that are given
+same : (c : tie.Start) → let a = c .args in (a .across ≡ a .a) × (a .down ≡ a .d)
+same c = let a = c .args in steps-are (a .across) (a .down) (a .a) (a .d) (c .pre .3)
+
+hold-rows-requires : tie.Need-hold-rows-requires
+hold-rows-requires c κs =
+    let e = same (c .before .before .before .before) in
+    let f = c .before .before .before .before .pre in
+    (f .0, f .1, rw (e .0, e .1) at (f .2))
+
+same-length : tie.Need-same-length
+same-length c = search needs
+
+returns : tie.Need-returns
+returns c =
+    let d = c .before .before in
+    let e = same (d .before .before .before .before .before) in
+    rw (e .0, e .1) (d .hold-rows .ensures)
+
+pub hold-fixed-spec : {M : Type 1} → statement M
+hold-fixed-spec = tie.close (tie.spec hold-rows-requires same-length returns)

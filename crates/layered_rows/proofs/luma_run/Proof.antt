@@ -1,0 +1,110 @@
+-- `layered_rows::luma_run` meets its contract. Assumes nothing.
+use borrow.Author.Needs.{needs}
+use mathlib.Core.Path.{_≡_, refl, _∙_}
+use Prim.Native.Nat.{ℕ, _-_, _≤_, _<_}
+use native.Mathlib.Nat.{le-antisymm}
+use native.Mathlib.Omega.{arith}
+use lib.ListN.{length}
+use Rattle.lent.specs.Lent.{lay, Inside}
+use Rattle.whole.proofs.Bytes.{byte-asks}
+use Rattle.layered.specs.declared.Work.the-variants.{Unpeel}
+use Rattle.layered.specs.Works.{ruleOf}
+use Rattle.layered_rows.specs.Rows.{RowOn}
+use Rattle.layered_rows.proofs.Cells.{run-none, run-more}
+use Rattle.layered_rows.proofs.Luma.{numbers-in, laid-dot}
+use Rattle.layered_rows.proofs.luma_run.Statement.{statement}
+use Rattle.layered_rows.proofs.luma_run.Tie as tie
+
+abbrev Inv-loop : tie.InvT-loop
+Inv-loop output₀ opitch count time p l lb a ab b bb first fpitch second spitch y from to n₀ x₀ output n x =
+    RowOn (ruleOf (Unpeel time) (lay (p .shape) l lb a ab b bb) (p .shape .plane) (record { bytes = first; pitch = fpitch }) (record { bytes = second; pitch = spitch })) opitch y from x count output₀ output n
+    × (from ≤ x)
+    × (x ≤ to)
+    × (length output ≡ length output₀)
+
+abbrev μ-loop : tie.MeasureT-loop
+μ-loop output₀ opitch count time p l lb a ab b bb first fpitch second spitch y from to n₀ x₀ output n x = to - x
+
+-- a column of the run is one of the plane
+inside : (s : tie.Start Inv-loop μ-loop) (x : ℕ) → x < s .args .to → Inside (s .args .p) x (s .args .y)
+inside s x below = record { left = omega (arith, s .pre .1 .within, below); above = s .pre .1 .above }
+
+loop-holds : tie.Need-loop-holds Inv-loop μ-loop
+loop-holds c = (run-none _ _ _ _ _ _, omega arith, omega arith, refl)
+
+place-requires : tie.Need-place-requires Inv-loop μ-loop
+place-requires c κs = search needs
+
+slice-read-old : tie.Need-slice-read-old Inv-loop μ-loop
+slice-read-old c =
+    let s = c .before .before .before .before .before .before .before .before .before .before in
+    let at-loop = c .before .before .before .loop in
+    omega (arith, c .before .place .ensures, s .pre .1 .room, at-loop .inv .3, c .before .before .loop-test .taken)
+
+laid-requires : tie.Need-laid-requires Inv-loop μ-loop
+laid-requires c κs =
+    let s = c .before .before .before .before .before .before .before .before .before .before in
+    let at-loop = c .before .before .before .loop in
+    let i = inside s (at-loop .x) (c .before .before .loop-test .taken) in (
+      numbers-in (s .args .p) _ (at-loop .x) (s .args .y) (s .pre .0 .ready .sound .planned) i (s .pre .0 .ready .sound .luma-long) (s .pre .3),
+      byte-asks (at-loop .x) (s .args .y) (s .pre .0 .ready .fits) (i .left) (i .above),
+      byte-asks (at-loop .x) (s .args .y) (s .pre .0 .fits) (i .left) (i .above),
+    )
+
+mark-requires : tie.Need-mark-requires Inv-loop μ-loop
+mark-requires c κs =
+    let s = c .before .before .before .before .before .before .before .before .before .before .before .before in
+    let at-loop = c .before .before .before .before .before .loop in
+    let below = c .before .before .before .before .loop-test .taken in (
+      omega (arith, c .before .before .before .place .ensures, s .pre .1 .room, at-loop .inv .3, below),
+      omega (arith, at-loop .inv .0 .few, s .pre .1 .few, below, at-loop .inv .1),
+    )
+
+add-x : tie.Need-add-x Inv-loop μ-loop
+add-x c = search needs
+
+loop-less : tie.Need-loop-less Inv-loop μ-loop
+loop-less c = search needs
+
+loop-again : tie.Need-loop-again Inv-loop μ-loop
+loop-again c =
+    let marked = c .before .before in
+    let ruled = marked .before .before in
+    let placed = ruled .before .before in
+    let at-loop = placed .before .before .loop in
+    let s = placed .before .before .before .before .before .before .before .before .before in
+    let a = s .args in
+    let inv = at-loop .inv in
+    let below = placed .before .loop-test .taken in
+    let e = placed .place .ensures in
+    let d = laid-dot (lay (a .p .shape) (a .l .now) (a .lb .now) (a .a .now) (a .ab .now) (a .b .now) (a .bb .now)) (a .p .shape .plane) (s .pre .3) (at-loop .x) (a .y) (record { bytes = a .first .now; pitch = a .fpitch }) (record { bytes = a .second .now; pitch = a .spitch }) (a .time) _ (ruled .laid .result) (s .pre .2 (at-loop .x) (inv .1) below) (ruled .laid .ensures) in (
+      run-more (inv .1) (inv .0) (rw e at d) (rw e at (marked .mark .ensures)),
+      omega arith,
+      omega arith,
+      marked .mark .kept .0 ∙ inv .3,
+    )
+
+same-length : tie.Need-same-length Inv-loop μ-loop
+same-length c = search needs
+
+returns : tie.Need-returns Inv-loop μ-loop
+returns c =
+    let at-loop = c .before .loop in
+    rw (le-antisymm (at-loop .inv .2) (c .loop-test .left)) at (at-loop .inv .0)
+
+pub luma-run-spec : {M : Type 1} → statement M
+luma-run-spec =
+    tie.close
+    (tie.spec
+    Inv-loop
+    μ-loop
+    loop-holds
+    place-requires
+    slice-read-old
+    laid-requires
+    mark-requires
+    add-x
+    loop-less
+    loop-again
+    same-length
+    returns)

@@ -1,0 +1,34 @@
+-- `plane::exact` meets its contract. Assumes nothing.
+use Prim.Native.Nat.{_*_, _<_}
+use native.Mathlib.Nat.{zero-mul, mul-comm}
+use native.Mathlib.Omega.{arith}
+use borrow.Author.Needs.{needs}
+use Rattle.plane.proofs.Laws.{product}
+use Rattle.plane.proofs.exact.Statement.{statement}
+use Rattle.plane.proofs.exact.Tie as tie
+
+divides-requires : tie.Need-divides-requires
+divides-requires c κs = search needs
+
+div-is-product : tie.Need-div-is-product
+div-is-product c = search needs
+
+is-product-requires : tie.Need-is-product-requires
+is-product-requires c κs = search needs
+
+both-requires : tie.Need-both-requires
+both-requires c κs = search needs
+
+returns : tie.Need-returns
+returns c = rw (c .if1 .taken, zero-mul (c .before .args .width * c .before .args .height))
+
+returns-2 : tie.Need-returns-2
+returns-2 c =
+    let a = c .before .before .before .before .args in
+    let some : 0 < a .many = omega arith in
+    rw (c .both .ensures, c .before .is-product .ensures, c .before .before .divides .ensures, mul-comm (a .many) (a .width * a .height))
+    (product (a .size) (a .width * a .height) (a .many) some)
+
+pub exact-spec : {M : Type 1} → statement M
+exact-spec =
+    tie.close (tie.spec divides-requires div-is-product is-product-requires both-requires returns returns-2)

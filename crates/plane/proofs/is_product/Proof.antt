@@ -1,0 +1,30 @@
+-- `plane::is_product` meets its contract. Assumes nothing.
+use Prim.Native.Nat.{_<_}
+use native.Mathlib.Nat.{mul-zero}
+use native.Mathlib.Omega.{arith}
+use borrow.Author.Needs.{needs}
+use Rattle.plane.proofs.Laws.{product}
+use Rattle.plane.proofs.is_product.Statement.{statement}
+use Rattle.plane.proofs.is_product.Tie as tie
+
+divides-requires : tie.Need-divides-requires
+divides-requires c κs = search needs
+
+div-both : tie.Need-div-both
+div-both c = search needs
+
+both-requires : tie.Need-both-requires
+both-requires c κs = search needs
+
+returns : tie.Need-returns
+returns c = rw (c .if1 .taken, mul-zero)
+
+returns-2 : tie.Need-returns-2
+returns-2 c =
+    let a = c .before .before .before .args in
+    let some : 0 < a .b = omega arith in
+    rw (c .both .ensures, c .before .divides .ensures) (product (a .n) (a .a) (a .b) some)
+
+pub is-product-spec : {M : Type 1} → statement M
+is-product-spec =
+    tie.close (tie.spec divides-requires div-both both-requires returns returns-2)

@@ -1,0 +1,48 @@
+-- `point::luma_by` meets its contract, by its callees'. Assumes nothing.
+use Rattle.point.proofs.Points.{luma-in, whole-is, mixed-is}
+use borrow.Author.Needs.{needs}
+use Rattle.point.proofs.luma_by.Statement.{statement}
+use Rattle.point.proofs.luma_by.Tie as tie
+
+both-requires : tie.Need-both-requires
+both-requires c κs = search needs
+
+place-requires : tie.Need-place-requires
+place-requires c κs = search needs
+
+luma-texel-requires : tie.Need-luma-texel-requires
+luma-texel-requires c κs =
+    let s = c .before .before .before .before .before in
+    rw (c .place .ensures) (luma-in _ _ _ _ _ _ _ (s .pre .0) (s .pre .1 .left) (s .pre .1 .above))
+
+returns : tie.Need-returns
+returns c =
+    let test = c .before .before in
+    rw (c .luma-texel .ensures, c .before .place .ensures) (whole-is _ _ _ _ (test .before .both .ensures) (test .if1 .taken))
+
+luma-row-requires : tie.Need-luma-row-requires
+luma-row-requires c κs = search needs
+
+luma-row-requires-2 : tie.Need-luma-row-requires-2
+luma-row-requires-2 c κs = search needs
+
+mix-models-requires : tie.Need-mix-models-requires
+mix-models-requires c κs = search needs
+
+returns-2 : tie.Need-returns-2
+returns-2 c =
+    let test = c .before .before .before in
+    rw (c .mix-models .ensures, c .before .luma-row2 .ensures, c .before .before .luma-row .ensures) (mixed-is _ _ _ _ (test .before .both .ensures) (test .if1 .left))
+
+pub luma-by-spec : {M : Type 1} → statement M
+luma-by-spec =
+    tie.close
+    (tie.spec
+    both-requires
+    place-requires
+    luma-texel-requires
+    returns
+    luma-row-requires
+    luma-row-requires-2
+    mix-models-requires
+    returns-2)

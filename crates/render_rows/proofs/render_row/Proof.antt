@@ -1,0 +1,45 @@
+-- `render_rows::render_row` meets its contract, by its callees'. Assumes nothing.
+use mathlib.Core.Path.{_∙_}
+use Rattle.motion.proofs.Fields.{same-rows}
+use borrow.Author.Needs.{needs}
+use Rattle.render_rows.proofs.render_row.Statement.{statement}
+use Rattle.render_rows.proofs.render_row.Tie as tie
+
+row-taps-requires : tie.Need-row-taps-requires
+row-taps-requires c κs = search needs
+
+column-taps-requires : tie.Need-column-taps-requires
+column-taps-requires c κs = search needs
+
+around-requires : tie.Need-around-requires
+around-requires c κs = search needs
+
+render-cells-requires : tie.Need-render-cells-requires
+render-cells-requires c κs =
+    let s = c .before .before .before .before .before .before .before .before .before .before .before .before .before in
+    let j = s .args .j in
+    let rows = c .before .before .before .row-taps .ensures in (
+      s .pre .0,
+      s .pre .1,
+      record {
+        rows = record { is = rows .is ∙ same-rows _ _ _ _ (j .grid) (j .plan .span) (s .args .y); first-in = rows .first-in; second-in = rows .second-in };
+        holds = c .before .around .ensures .holds;
+      },
+    )
+
+same-length : tie.Need-same-length
+same-length c = search needs
+
+returns : tie.Need-returns
+returns c = search needs
+
+pub render-row-spec : {M : Type 1} → statement M
+render-row-spec =
+    tie.close
+    (tie.spec
+    row-taps-requires
+    column-taps-requires
+    around-requires
+    render-cells-requires
+    same-length
+    returns)

@@ -1,0 +1,68 @@
+-- `ring::gathered_at` meets its contract, by its callees'. Assumes nothing.
+use mathlib.Core.Path.{_≡_}
+use Rattle.rules.specs.Reading.{modelAt}
+use Rattle.rules.specs.Scene.{under}
+use Rattle.point.specs.Points.{layerOf}
+use Rattle.point.proofs.Points.{model-is, sample-is, across-is, down-is}
+use Rattle.ring.proofs.Means.{gathers, passes}
+use borrow.Author.Needs.{needs}
+use Rattle.ring.proofs.gathered_at.Statement.{statement}
+use Rattle.ring.proofs.gathered_at.Tie as tie
+
+between-requires : tie.Need-between-requires
+between-requires c κs = search needs
+
+between-requires-2 : tie.Need-between-requires-2
+between-requires-2 c κs = search needs
+
+model-by-requires : tie.Need-model-by-requires
+model-by-requires c κs = search needs
+
+abs-requires : tie.Need-abs-requires
+abs-requires c κs = search needs
+
+sample-at-requires : tie.Need-sample-at-requires
+sample-at-requires c κs = search needs
+
+lift-requires : tie.Need-lift-requires
+lift-requires c κs = search needs
+
+added-requires : tie.Need-added-requires
+added-requires c κs = search needs
+
+model-at : (c : tie.After-model-by) → let a = c .before .before .before .before .before .args in
+    c .model-by .result ≡ modelAt (layerOf (a .p) (a .l .now) (a .a .now) (a .b .now) (a .spare .now)) (a .p .shape .plane) (a .x) (a .y)
+model-at c =
+    let s = c .before .before .before .before .before in
+    let h = s .pre .0 .lies .sound .planned in
+    rw (c .model-by .ensures, c .before .between2 .ensures .is, c .before .before .between .ensures .is) (model-is (s .args .p) _ _ (across-is _ h) (down-is _ h) _ _)
+
+returns : tie.Need-returns
+unfolding under
+returns c =
+    let tested = c .before .before .before in
+    let m = tested .before .before in
+    let s = m .before .before .before .before .before in
+    let a = s .args in
+    let h = s .pre .0 .lies .sound .planned in
+    let l = layerOf (a .p) (a .l .now) (a .a .now) (a .b .now) (a .spare .now) in
+    rw (c .added .ensures, c .before .lift .ensures, c .before .before .sample-at .ensures, m .before .between2 .ensures .is, m .before .before .between .ensures .is, model-at m, sample-is (a .p) l (a .p .shape .plane) (across-is _ h) (down-is _ h) (a .x) (a .y) _)
+    (gathers _ _ _ (rw (tested .before .abs .ensures, model-at m) at (tested .if1 .taken)))
+
+returns-2 : tie.Need-returns-2
+unfolding under
+returns-2 c = passes _ _ _ (rw (c .before .abs .ensures, model-at (c .before .before)) at (c .if1 .left))
+
+pub gathered-at-spec : {M : Type 1} → statement M
+gathered-at-spec =
+    tie.close
+    (tie.spec
+    between-requires
+    between-requires-2
+    model-by-requires
+    abs-requires
+    sample-at-requires
+    lift-requires
+    added-requires
+    returns
+    returns-2)

@@ -1,0 +1,46 @@
+-- `ring::ring_around` meets its contract. The invariant: the first points are gathered. Assumes nothing.
+use mathlib.Core.Path.{_≡_, refl}
+use Prim.Native.Nat.{_≤_, _-_}
+use native.Mathlib.Nat.{le-antisymm}
+use native.Mathlib.Numerals.{add-one}
+use native.Mathlib.Omega.{arith}
+use borrow.Author.Needs.{needs}
+use Rattle.rules.specs.Forms.{turns}
+use Rattle.point.specs.Points.{layerOf}
+use Rattle.ring.specs.Rings.{ringUpTo}
+use Rattle.ring.proofs.ring_around.Statement.{statement}
+use Rattle.ring.proofs.ring_around.Tie as tie
+
+abbrev Inv-loop : tie.InvT-loop
+Inv-loop p l a b spare raw pitch x y radius r₀ side₀ r side =
+    (r ≡ ringUpTo (layerOf p l a b spare) (p .shape .plane) (record { bytes = raw; pitch = pitch }) x y radius side) × (side ≤ 9)
+
+abbrev μ-loop : tie.MeasureT-loop
+μ-loop p l a b spare raw pitch x y radius r₀ side₀ r side = 9 - side
+
+loop-holds : tie.Need-loop-holds Inv-loop μ-loop
+unfolding turns ringUpTo
+loop-holds c = (refl, omega arith)
+
+ring-step-requires : tie.Need-ring-step-requires Inv-loop μ-loop
+ring-step-requires c κs = search needs
+
+add-side : tie.Need-add-side Inv-loop μ-loop
+add-side c = search needs
+
+loop-less : tie.Need-loop-less Inv-loop μ-loop
+loop-less c = search needs
+
+loop-again : tie.Need-loop-again Inv-loop μ-loop
+unfolding turns ringUpTo
+loop-again c = (rw (c .ring-step .ensures, c .before .before .loop .inv .0, add-one), omega arith)
+
+returns : tie.Need-returns Inv-loop μ-loop
+returns c =
+    let at-loop = c .before .loop in
+    rw (le-antisymm (at-loop .inv .1) (c .loop-test .left)) at (at-loop .inv .0)
+
+pub ring-around-spec : {M : Type 1} → statement M
+ring-around-spec =
+    tie.close
+    (tie.spec Inv-loop μ-loop loop-holds ring-step-requires add-side loop-less loop-again returns)

@@ -1,0 +1,33 @@
+-- `ring::ring_step` meets its contract, by its callees'. Assumes nothing.
+use mathlib.Core.Path.{sym}
+use borrow.Author.Tests.{eq-eqb, ne-eqb}
+use Rattle.rules.specs.Scene.{point, stepped}
+use Rattle.point.proofs.Points.{across-is, down-is}
+use borrow.Author.Needs.{needs}
+use Rattle.ring.proofs.ring_step.Statement.{statement}
+use Rattle.ring.proofs.ring_step.Tie as tie
+
+returns : tie.Need-returns
+unfolding stepped
+returns c = sym (simp (eq-eqb _ _ (c .if1 .taken)))
+
+beside-requires : tie.Need-beside-requires
+beside-requires c κs = search needs
+
+beside-requires-2 : tie.Need-beside-requires-2
+beside-requires-2 c κs = search needs
+
+gathered-at-requires : tie.Need-gathered-at-requires
+gathered-at-requires c κs = search needs
+
+returns-2 : tie.Need-returns-2
+unfolding stepped point
+returns-2 c =
+    let s = c .before .before .before .before .before .before in
+    let h = s .pre .0 .lies .sound .planned in
+    rw (c .gathered-at .ensures, c .before .beside2 .ensures .is, c .before .before .beside .ensures .is, across-is _ h, down-is _ h)
+    (sym (simp (ne-eqb _ _ (c .before .before .before .if1 .left))))
+
+pub ring-step-spec : {M : Type 1} → statement M
+ring-step-spec =
+    tie.close (tie.spec returns beside-requires beside-requires-2 gathered-at-requires returns-2)

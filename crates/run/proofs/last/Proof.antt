@@ -1,0 +1,29 @@
+-- `run::last` meets its contract. Assumes nothing.
+use mathlib.Core.Path.{_≡_, refl}
+use native.Mathlib.Omega.{arith}
+use Rattle.rules.specs.Forms.{turns}
+use Rattle.run.specs.Run.{sumFrom}
+use borrow.Author.Needs.{needs}
+use Rattle.run.proofs.last.Statement.{statement}
+use Rattle.run.proofs.last.Tie as tie
+
+returns : tie.Need-returns
+unfolding turns sumFrom
+returns c = rw (c .if1 .taken) (record { sum = refl; few = omega arith })
+
+one-requires : tie.Need-one-requires
+one-requires c κs = search needs
+
+returns-2 : tie.Need-returns-2
+returns-2 c = rw (c .before .if2 .taken) (c .one .ensures)
+
+two-requires : tie.Need-two-requires
+two-requires c κs = search needs
+
+returns-3 : tie.Need-returns-3
+returns-3 c =
+    let e : c .before .before .before .before .args .n ≡ 2 = omega arith in
+    rw e (c .two .ensures)
+
+pub last-spec : {M : Type 1} → statement M
+last-spec = tie.close (tie.spec returns one-requires returns-2 two-requires returns-3)

@@ -1,0 +1,153 @@
+use crate::answer::done;
+use crate::{ffi, Error, LayerBuf, LayerMut, Part, Ratio, Refusal, Size, Sums};
+
+/// What [`fit`] takes for lettering.
+#[derive(Clone, Copy, Debug)]
+pub struct Settings {
+    /// How far a pixel's changes must be from the scene's, 0.5 to 255.
+    pub limit: f32,
+    /// The evidence figure, 0 to 65,536: how often a pixel must have stood apart. Lower finds more.
+    pub evidence: f32,
+    /// Whether a close fit is asked for first.
+    pub strict: bool,
+}
+
+impl Default for Settings {
+    fn default() -> Self {
+        Self {
+            limit: 6.0,
+            evidence: 2.0,
+            strict: false,
+        }
+    }
+}
+
+/// The slices that [`fit`] works in. What they hold afterwards means nothing.
+#[derive(Debug)]
+pub struct Work<'a> {
+    /// Exactly four numbers for each luma pixel.
+    pub models: &'a mut [f32],
+    /// Exactly one byte for each luma pixel.
+    pub kept: &'a mut [u8],
+    /// Exactly one byte for each 8 by 8 cell.
+    pub cover: &'a mut [u8],
+}
+
+const NAMES: [[&str; 3]; 3] = [
+    ["previous.luma", "previous.chroma[0]", "previous.chroma[1]"],
+    ["own.luma", "own.chroma[0]", "own.chroma[1]"],
+    ["next.luma", "next.chroma[0]", "next.chroma[1]"],
+];
+
+/// Fits a layer to the sums of a part and its neighbours.
+///
+/// [`LayerBuf::fit`] does this with slices of its own.
+///
+/// # Errors
+/// `Refusal::Size`, `Refusal::Ratio`, `Refusal::Length`, `Refusal::Setting`, `Refusal::Pairs`,
+/// `Refusal::ChromaTotal`.
+pub fn fit(
+    [previous, own, next]: [Part<'_>; 3],
+    size: Size,
+    ratio: Ratio,
+    settings: Settings,
+    work: Work<'_>,
+    layer: LayerMut<'_>,
+) -> Result<(), Error> {
+    let [chroma1, chroma2] = layer.chroma;
+    let word = ffi::fit::call(
+        previous.luma,
+        previous.chroma[0],
+        previous.chroma[1],
+        previous.pairs,
+        own.luma,
+        own.chroma[0],
+        own.chroma[1],
+        own.pairs,
+        next.luma,
+        next.chroma[0],
+        next.chroma[1],
+        next.pairs,
+        size.width,
+        size.height,
+        settings.limit,
+        settings.evidence,
+        settings.strict,
+        ratio.number(),
+        work.models,
+        work.kept,
+        work.cover,
+        layer.luma,
+        chroma1,
+        chroma2,
+    );
+    let lengths = [layer.luma.len(), chroma1.len(), chroma2.len()];
+    let pixels = || size.width * size.height;
+    done("fit", word, |search| {
+        search
+            .size(size)
+            .ratio(ratio.number(), size)
+            .neighbour(NAMES[0], previous, size, ratio)
+            .part(NAMES[1], own, size, ratio)
+            .neighbour(NAMES[2], next, size, ratio)
+            .exactly("models", work.models.len(), || 4 * pixels())
+            .exactly("kept", work.kept.len(), pixels)
+            .exactly("cover", work.cover.len(), || size.cells())
+            .slices(["luma", "chroma[0]", "chroma[1]"], lengths, 2, size, ratio)
+            .setting("limit", settings.limit, [0.5, 255.0])
+            .setting("evidence", settings.evidence, [0.0, 65_536.0])
+            .pairs("the number of pairs in previous", previous.pairs, 0, 12)
+            .pairs("the number of pairs in own", own.pairs, 1, 12)
+            .pairs("the number of pairs in next", next.pairs, 0, 12)
+    })
+}
+
+impl LayerBuf {
+    /// Fits a new layer to sums and those of their neighbours in the clip, of one size and ratio.
+    ///
+    /// ```
+    /// use safeteal::{Frame, LayerBuf, MotionBuf, Pair, Ratio, Refusal, Settings, Size, Sums};
+    ///
+    /// let size = Size::new(1, 1);
+    /// let mut sums = Sums::new(size, Ratio::One)?;
+    /// let error = LayerBuf::fit(None, &sums, None, Settings::default()).unwrap_err();
+    /// assert_eq!(error.refusal(), Refusal::Pairs);
+    /// assert_eq!(error.to_string(), "fit refused (7): the number of pairs in own is 0 and must be 1 to 12");
+    ///
+    /// let frame = Frame::new(size, Ratio::One, [90, 128, 128])?;
+    /// sums.add(&Pair::of(&frame, &frame, &MotionBuf::still(size)?))?;
+    /// let layer = LayerBuf::fit(None, &sums, None, Settings::default())?;
+    /// // Nothing stands apart: gain 1 (4096 / 4096), offset 0.
+    /// assert_eq!(layer.layer().luma, [4096, 0]);
+    /// # Ok::<(), safeteal::Error>(())
+    /// ```
+    ///
+    /// # Errors
+    /// As [`fit`]; `Refusal::Size` for a neighbour of another size or ratio.
+    pub fn fit(
+        previous: Option<&Sums>,
+        own: &Sums,
+        next: Option<&Sums>,
+        settings: Settings,
+    ) -> Result<Self, Error> {
+        let (size, ratio) = (own.size, own.ratio);
+        for (name, sums) in [("previous", previous), ("next", next)] {
+            if sums.is_some_and(|sums| (sums.size, sums.ratio) != (size, ratio)) {
+                return Err(Error::of("fit", Refusal::Size, |search| {
+                    search.unlike(name)
+                }));
+            }
+        }
+        let mut made = Self::new(size, ratio)?;
+        let pixels = size.width * size.height;
+        let work = Work {
+            models: &mut vec![0.0; 4 * pixels],
+            kept: &mut vec![0; pixels],
+            cover: &mut vec![0; size.cells()],
+        };
+        let [previous, next] = [previous, next].map(|sums| sums.map_or(Part::ABSENT, Sums::part));
+        let parts = [previous, own.part(), next];
+        fit(parts, size, ratio, settings, work, made.layer_mut())?;
+        Ok(made)
+    }
+}

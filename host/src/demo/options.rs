@@ -1,0 +1,160 @@
+//! The options of the command line.
+
+use std::path::PathBuf;
+use std::str::FromStr;
+
+use super::finding::most_evidence;
+use crate::Size;
+
+pub const HELP: &str = "\
+./demo [OPTION VALUE]..
+
+Makes up a clip with a logo and a date stamp, finds the lettering with the proved library at two evidence figures,
+lifts it off two frames, makes the frame in between, and lays the lettering back. Pictures show each step.
+
+  --width N       the clip's width in pixels, even, 160 to 4096 (640)
+  --height N      the clip's height in pixels, even, 120 to 4096 (360)
+  --frames N      the frames of the clip, 8 to 240 (37)
+  --evidence A    the first evidence figure, 0 to 65536 (as often as a dot can stand apart: 72 for 37 frames)
+  --lower B       the second evidence figure, at most the first (five ninths of it)
+  --out DIR       the folder for the pictures, made where it is missing (demo-out)
+  --help          these lines
+";
+
+#[derive(Clone, Debug)]
+pub struct Options {
+    pub size: Size,
+    pub frames: usize,
+    /// The first evidence figure and the second, which is not above it.
+    pub evidence: [f32; 2],
+    pub out: PathBuf,
+}
+
+/// What the words of the command line ask for.
+pub enum Asked {
+    Help,
+    Run(Options),
+}
+
+/// Reads the words after the command's name, or says what is wrong with them.
+pub fn read(words: impl Iterator<Item = String>) -> Result<Asked, String> {
+    let (mut size, mut frames, mut out) = (Size::new(640, 360), 37, PathBuf::from("demo-out"));
+    let (mut evidence, mut lower) = (None, None);
+    let mut words = words;
+    while let Some(word) = words.next() {
+        let mut value = || {
+            let next = words.next();
+            next.ok_or_else(|| format!("{word} needs a value after it; ./demo --help shows which"))
+        };
+        match word.as_str() {
+            "--help" | "-h" => return Ok(Asked::Help),
+            "--width" => size.width = side(&word, &value()?, 160)?,
+            "--height" => size.height = side(&word, &value()?, 120)?,
+            "--frames" => frames = number_of_frames(&value()?)?,
+            "--evidence" => evidence = Some(figure(&word, &value()?)?),
+            "--lower" => lower = Some(figure(&word, &value()?)?),
+            "--out" => out = PathBuf::from(value()?),
+            _ => {
+                return Err(format!(
+                    "there is no option {word:?}; ./demo --help lists them"
+                ))
+            }
+        }
+    }
+    let first = evidence.unwrap_or(most_evidence(frames) as f32);
+    let second = lower.unwrap_or((first * 5.0 / 9.0).floor());
+    if second > first {
+        return Err(format!(
+            "--lower {second} is above --evidence {first}: turn it down to {first} or less, or the first figure up"
+        ));
+    }
+    Ok(Asked::Run(Options {
+        size,
+        frames,
+        evidence: [first, second],
+        out,
+    }))
+}
+
+fn side(option: &str, value: &str, least: usize) -> Result<usize, String> {
+    let inside = |side: &usize| (least..=4096).contains(side) && side % 2 == 0;
+    let takes = format!("{option} takes an even whole number from {least} to 4096");
+    inside_or(&takes, value, inside)
+}
+
+fn number_of_frames(value: &str) -> Result<usize, String> {
+    let takes = "--frames takes a whole number from 8 to 240";
+    inside_or(takes, value, |frames| (8..=240).contains(frames))
+}
+
+fn figure(option: &str, value: &str) -> Result<f32, String> {
+    let takes = format!("{option} takes a number from 0 to 65536");
+    inside_or(&takes, value, |figure| (0.0..=65_536.0).contains(figure))
+}
+
+/// The value as a number that is inside, or the words for what the option takes.
+fn inside_or<T: FromStr>(
+    takes: &str,
+    value: &str,
+    inside: impl FnOnce(&T) -> bool,
+) -> Result<T, String> {
+    let number = value.parse().ok().filter(inside);
+    number.ok_or_else(|| format!("{takes}, not {value:?}"))
+}
+
+#[cfg(test)]
+mod tests {
+    use super::*;
+
+    fn words(text: &str) -> Result<Asked, String> {
+        read(text.split_whitespace().map(str::to_owned))
+    }
+
+    fn complaint(text: &str) -> String {
+        words(text).err().expect("a wrong command line")
+    }
+
+    #[test]
+    fn all_options() {
+        let text = "--height 200 --out some/where --width 320 --frames 9 --lower 0.5 --evidence 3";
+        let Ok(Asked::Run(options)) = words(text) else {
+            panic!("a right command line");
+        };
+        assert_eq!(options.size, Size::new(320, 200));
+        assert_eq!(options.frames, 9);
+        assert_eq!(options.evidence, [3.0, 0.5]);
+        assert_eq!(options.out, PathBuf::from("some/where"));
+        assert!(matches!(words("--help"), Ok(Asked::Help)));
+    }
+
+    #[test]
+    fn figures_that_go_with_the_frames() {
+        let Ok(Asked::Run(options)) = words("--frames 10") else {
+            panic!("a right command line");
+        };
+        assert_eq!(options.evidence, [18.0, 10.0]);
+    }
+
+    #[test]
+    fn wrong_words_are_named() {
+        let said = [
+            (
+                "--width 641",
+                "--width takes an even whole number from 160 to 4096, not \"641\"",
+            ),
+            ("--height 5000", "--height takes"),
+            ("--frames 7", "--frames takes a whole number from 8 to 240"),
+            ("--lower NaN", "--lower takes a number from 0 to 65536"),
+            ("--lower 73", "--lower 73 is above --evidence 72"),
+            ("--out", "--out needs a value"),
+            ("--colour red", "there is no option \"--colour\""),
+        ];
+        for (text, part) in said {
+            assert!(
+                complaint(text).contains(part),
+                "{text}: {}",
+                complaint(text)
+            );
+        }
+    }
+}

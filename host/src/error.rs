@@ -1,0 +1,110 @@
+//! What a refused call says: the number's meaning, and the argument that it was given for.
+
+use std::fmt;
+
+use crate::{Refusal, Size};
+
+mod search;
+pub(crate) use search::Search;
+
+/// A refused call. It has changed none of the slices lent to it (the work slices of [`fit`](crate::fit) after
+/// [`Refusal::ChromaTotal`] excepted).
+///
+/// ```
+/// use safeteal::{mask, Limits, Refusal, Size};
+///
+/// let (plane, mut still) = ([0; 12], [0; 11]);
+/// let error = mask(&plane, &plane, 4, Size::new(4, 3), Limits::default(), &mut still).unwrap_err();
+/// assert_eq!(error.refusal(), Refusal::Length);
+/// assert_eq!(error.to_string(), "mask refused (4): `still` has 11 elements and must have exactly 12");
+/// ```
+#[derive(Clone, Copy, Debug, PartialEq)]
+pub struct Error {
+    call: &'static str,
+    refusal: Refusal,
+    fault: Option<Fault>,
+}
+
+impl Error {
+    /// The reason. Where several hold, it is the one with the lowest number.
+    #[must_use]
+    pub fn refusal(&self) -> Refusal {
+        self.refusal
+    }
+
+    /// The name of the call.
+    #[must_use]
+    pub fn call(&self) -> &'static str {
+        self.call
+    }
+
+    /// The refusal of a call, with the first argument that it fits.
+    #[cold]
+    pub(crate) fn of(
+        call: &'static str,
+        refusal: Refusal,
+        arguments: impl FnOnce(Search) -> Search,
+    ) -> Self {
+        let fault = arguments(Search::new(refusal)).fault();
+        Self {
+            call,
+            refusal,
+            fault,
+        }
+    }
+}
+
+impl fmt::Display for Error {
+    fn fmt(&self, f: &mut fmt::Formatter<'_>) -> fmt::Result {
+        let (call, refusal) = (self.call, self.refusal);
+        write!(f, "{call} refused ({}): ", refusal.number())?;
+        match self.fault {
+            Some(fault) => write!(f, "{fault}"),
+            None => write!(f, "{refusal}"),
+        }
+    }
+}
+
+impl std::error::Error for Error {}
+
+/// An argument that is not as it has to be.
+#[derive(Clone, Copy, Debug, PartialEq)]
+pub(crate) enum Fault {
+    Outside(&'static str, f64, [f64; 2]),
+    Short(&'static str, usize, usize),
+    Inexact(&'static str, usize, usize),
+    Undivided(Size, usize),
+    Pel(i32),
+    Unlike(&'static str),
+    Step(&'static str, usize, usize, Size),
+}
+
+impl fmt::Display for Fault {
+    fn fmt(&self, f: &mut fmt::Formatter<'_>) -> fmt::Result {
+        match *self {
+            Fault::Outside(name, value, [low, f64::INFINITY]) => {
+                write!(f, "{name} is {value} and must be at least {low}")
+            }
+            Fault::Outside(name, value, [low, high]) => {
+                write!(f, "{name} is {value} and must be {low} to {high}")
+            }
+            Fault::Short(name, has, needs) => {
+                write!(f, "`{name}` has {has} elements and needs at least {needs}")
+            }
+            Fault::Inexact(name, has, needs) => {
+                write!(f, "`{name}` has {has} elements and must have exactly {needs}")
+            }
+            Fault::Undivided(size, ratio) => {
+                let Size { width, height } = size;
+                write!(f, "ratio {ratio} does not divide {width} by {height}")
+            }
+            Fault::Step(name, across, length, Size { width, height }) => write!(
+                f,
+                "the mask has {length} elements in rows of {across}, and {name} is not 1 to 8 times that of a plane of \
+                 {width} by {height}"
+            ),
+            Fault::Unlike(name) => write!(f, "`{name}` has another size or ratio than `own`"),
+            Fault::Pel(pel) => write!(f, "pel is {pel} and must be 1, 2 or 4"),
+        }
+    }
+}
