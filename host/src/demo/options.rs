@@ -6,20 +6,8 @@ use std::str::FromStr;
 use super::finding::most_evidence;
 use crate::Size;
 
-pub const HELP: &str = "\
-./demo [OPTION VALUE]..
-
-Makes up a clip with a logo and a date stamp, finds the lettering with the proved library at two evidence figures,
-lifts it off two frames, makes the frame in between, and lays the lettering back. Pictures show each step.
-
-  --width N       the clip's width in pixels, even, 160 to 4096 (640)
-  --height N      the clip's height in pixels, even, 120 to 4096 (360)
-  --frames N      the frames of the clip, 8 to 240 (37)
-  --evidence A    the first evidence figure, 0 to 65536 (as often as a dot can stand apart: 72 for 37 frames)
-  --lower B       the second evidence figure, at most the first (five ninths of it)
-  --out DIR       the folder for the pictures, made where it is missing (demo-out)
-  --help          these lines
-";
+/// The lines of `./demo --help`. The command prints the same file before anything is built.
+pub const HELP: &str = include_str!("help.txt");
 
 #[derive(Clone, Debug)]
 pub struct Options {
