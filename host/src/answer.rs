@@ -1,15 +1,16 @@
 //! A call's one 64-bit answer, `count * 256 + number`, taken apart.
 
 use crate::error::Search;
-use crate::{Error, Refusal};
+use crate::groups::{Form, LentLayer};
+use crate::{Channel, Error, LayerOf, PlaneMut, Refusal, Result, Size};
 
 /// The count, or the refusal that the number names, with what the search finds in the arguments.
 pub(crate) fn counted(
     call: &'static str,
     word: u64,
     arguments: impl FnOnce(Search) -> Search,
-) -> Result<u64, Error> {
-    match Refusal::from_number(word % 256) {
+) -> Result<u64> {
+    match Refusal::answered((word % 256) as u8) {
         None => Ok(word / 256),
         Some(refusal) => Err(Error::of(call, refusal, arguments)),
     }
@@ -20,6 +21,23 @@ pub(crate) fn done(
     call: &'static str,
     word: u64,
     arguments: impl FnOnce(Search) -> Search,
-) -> Result<(), Error> {
+) -> Result<()> {
     counted(call, word, arguments).map(|_| ())
+}
+
+/// For a call that writes one plane by a layer: what is lent after the output, `put` knows and `rest` searches.
+pub(crate) fn written<T: Form>(
+    call: &'static str,
+    layer: &LayerOf<'_, T>,
+    channel: Channel,
+    mut output: PlaneMut<'_>,
+    put: impl FnOnce(&LentLayer<'_, T>, usize, &mut PlaneMut<'_>) -> u64,
+    rest: impl FnOnce(Search, Size) -> Search,
+) -> Result<u64> {
+    let layer = layer.lent();
+    let word = put(&layer, channel.number(), &mut output);
+    let size = layer.plane(channel);
+    counted(call, word, |search| {
+        rest(search.layer(&layer).output(&output, size), size)
+    })
 }

@@ -16,22 +16,51 @@ macro_rules! at_steps {
         )*]
     };
     (one $call:literal, $make:ident, ($across:literal, $down:literal), $marked:literal, $part:ident) => {
-        Workload {
-            call: $call,
-            name: concat!("step ", $across, "×", $down, $marked),
-            make: |width, height| $make((width / $across, height / $down), ($across, $down), Marked::$part),
+        Workload::new($call, concat!("step ", $across, "×", $down, $marked), |width, height| {
+            $make((width / $across, height / $down), ($across, $down), Marked::$part)
+        })
+    };
+}
+
+/// A call's workloads with a mask of the plane's size, and of twice that.
+macro_rules! by_step {
+    ($call:literal, $name:literal, $make:ident) => {
+        &[
+            Workload::new($call, concat!($name, ", step 1"), |width, height| {
+                $make(width, height, 1)
+            }),
+            Workload::new($call, concat!($name, ", step 2"), |width, height| {
+                $make(width / 2, height / 2, 2)
+            }),
+        ]
+    };
+}
+
+/// Our side's call over a layer in the form that it is lent in.
+macro_rules! by_form {
+    ($fitted:expr, $layer:ident, $call:expr) => {
+        match $fitted.bytes() {
+            Some($layer) => black_box($call),
+            None => {
+                let $layer = $fitted.numbers();
+                black_box($call)
+            }
         }
     };
 }
 
 /// A call's workloads over a layer: for each, its lettering and the plane of the frames.
 macro_rules! over_layers {
+    ($call:literal, $make:ident) => {
+        over_layers!($call, $make,
+            (Logo, luma), (Logo, chroma), (All, luma), (All, chroma), (Opaque, luma), (Opaque, chroma))
+    };
     ($call:literal, $make:ident, $(($lettering:ident, $plane:ident)),*) => {
-        &[$(Workload {
-            call: $call,
-            name: concat!(over_layers!($lettering), ", ", stringify!($plane)),
-            make: |width, height| $make(Lettering::$lettering.fitted(width, height), over_layers!($plane)),
-        }),*]
+        &[$(
+            Workload::new($call, concat!(over_layers!($lettering), ", ", stringify!($plane)), |width, height| {
+                $make(Lettering::$lettering.fitted(width, height), over_layers!($plane))
+            })
+        ),*]
     };
     (Logo) => { "a fitted logo" };
     (All) => { "every pixel layered" };
@@ -47,6 +76,7 @@ pub mod empty;
 pub mod fit;
 pub mod hold;
 pub mod mask;
+pub mod masked;
 pub mod peel;
 pub mod render;
 pub mod stats;
@@ -82,15 +112,30 @@ pub const SIZES: [(usize, usize, usize); 4] = [
 ];
 
 /// No more rounds are begun after this time, save that there are three of them, or one where a round is long.
-const ENOUGH: Duration = Duration::from_secs(4);
+const ENOUGH: Duration = Duration::from_secs(2);
 const LONG: Duration = Duration::from_secs(10);
+
+/// A round lasts at least so long, if a thousand calls do.
+const SHORT: Duration = Duration::from_micros(20);
+
+/// Growth is from the side of a small square to that of a large one: the small one is taken so many times that
+/// both have the same pixels, and wait for the memory alike.
+pub const GROWTH: (usize, usize) = (512, 4096);
 
 /// Something a call is measured on.
 pub struct Workload {
     pub call: &'static str,
     pub name: &'static str,
     /// Makes the inputs for a size of luma.
-    pub make: fn(usize, usize) -> Box<dyn Sides>,
+    pub make: Make,
+}
+
+type Make = fn(usize, usize) -> Box<dyn Sides>;
+
+impl Workload {
+    const fn new(call: &'static str, name: &'static str, make: Make) -> Self {
+        Self { call, name, make }
+    }
 }
 
 /// One input, and both sides on it. Outputs are not cleared between rounds.
@@ -100,7 +145,7 @@ pub trait Sides {
     fn ours(&mut self);
     fn rust(&mut self);
     /// Whether both sides have left the same.
-    fn same(&self) -> bool;
+    fn same(&mut self) -> bool;
 }
 
 /// Nanoseconds per pixel, the median of all rounds.
@@ -110,38 +155,60 @@ pub struct Measured {
     pub rounds: usize,
 }
 
-/// Runs both sides by turns.
+/// Runs both sides by turns. A call that is short is made several times in a round, so that the clock costs little.
 pub fn measure(sides: &mut dyn Sides, most: usize) -> Measured {
     let (mut ours, mut rust) = (Vec::new(), Vec::new());
     let start = Instant::now();
-    // One round that does not count: pages are touched and the caches are warm.
-    let mut round = |keep: bool| {
-        let begun = Instant::now();
-        sides.ours();
-        let between = Instant::now();
-        sides.rust();
-        let end = Instant::now();
-        if keep {
-            ours.push(between - begun);
-            rust.push(end - between);
-        }
-        end - begun
-    };
-    let long = round(false) > LONG;
+    // A round that does not count: pages are touched and the caches are warm.
+    let once = [timed(|| sides.ours()), timed(|| sides.rust())];
+    let calls = calls_in_a_round(once[0].min(once[1]));
+    let long = once[0] + once[1] > LONG;
     for done in 0..most {
         if start.elapsed() > ENOUGH && (done >= 3 || (long && done >= 1)) {
             break;
         }
-        round(true);
+        ours.push(timed(|| (0..calls).for_each(|_| sides.ours())));
+        rust.push(timed(|| (0..calls).for_each(|_| sides.rust())));
     }
     let rounds = ours.len();
     assert!(sides.same(), "the two sides left different results");
-    let pixels = sides.pixels() as f64;
-    let [ours, rust] = [ours, rust].map(|times| median(times).as_nanos() as f64 / pixels);
+    let pixels = sides.pixels() * calls;
+    let [ours, rust] = [ours, rust].map(|times| per_pixel(times, pixels));
     Measured { ours, rust, rounds }
 }
 
-fn median(mut times: Vec<Duration>) -> Duration {
+/// Our side's nanoseconds per pixel on as many small squares as make the large one, and on the large one.
+pub fn grown(workload: &Workload) -> (f64, f64) {
+    let (small, large) = GROWTH;
+    let times = (large / small) * (large / small);
+    let of = |side: usize, times: usize| -> f64 {
+        let mut inputs: Vec<_> = (0..times).map(|_| (workload.make)(side, side)).collect();
+        in_turn(&mut inputs)
+    };
+    (of(small, times), of(large, 1))
+}
+
+/// Our side's nanoseconds per pixel over several inputs, one after another, the median of five rounds.
+fn in_turn(inputs: &mut [Box<dyn Sides>]) -> f64 {
+    let mut round = || timed(|| inputs.iter_mut().for_each(|sides| sides.ours()));
+    round();
+    let times = (0..5).map(|_| round()).collect();
+    per_pixel(times, inputs.iter().map(|sides| sides.pixels()).sum())
+}
+
+fn timed(work: impl FnOnce()) -> Duration {
+    let start = Instant::now();
+    work();
+    start.elapsed()
+}
+
+fn calls_in_a_round(once: Duration) -> usize {
+    let calls = SHORT.as_nanos() / once.as_nanos().max(1);
+    calls.clamp(1, 1000) as usize
+}
+
+/// The median, in nanoseconds per pixel.
+fn per_pixel(mut times: Vec<Duration>, pixels: usize) -> f64 {
     times.sort_unstable();
-    times[times.len() / 2]
+    times[times.len() / 2].as_nanos() as f64 / pixels as f64
 }

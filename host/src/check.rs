@@ -5,6 +5,8 @@
 
 #[macro_use]
 pub mod lent;
+#[macro_use]
+pub mod masked;
 
 pub mod case;
 pub mod damage;
@@ -50,3 +52,16 @@ pub const CALLS: &[Call] = &[
     Call::of::<fit::Fit>(11),
     Call::of::<render::Render>(12),
 ];
+
+/// The stored list: for each call some cases of every refusal, then as many accepted ones as fit into its share of 300 KB.
+pub fn answers() -> Vec<u8> {
+    const SEED: u64 = 20;
+    const BYTES: usize = 300_000;
+    let of_call = |call: &Call| {
+        let stored = call.record(SEED, BYTES / CALLS.len());
+        let (name, cases, bytes) = (call.name, stored.cases, stored.bytes.len());
+        eprintln!("{name}: {cases} cases, {bytes} bytes");
+        stored.bytes
+    };
+    CALLS.iter().flat_map(of_call).collect()
+}

@@ -7,6 +7,9 @@ use crate::{Refusal, Size};
 mod search;
 pub(crate) use search::Search;
 
+/// What a call gives: its answer, or why it was refused.
+pub type Result<T, E = Error> = std::result::Result<T, E>;
+
 /// A refused call. It has changed none of the slices lent to it (the work slices of [`fit`](crate::fit) after
 /// [`Refusal::ChromaTotal`] excepted).
 ///

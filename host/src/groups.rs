@@ -1,26 +1,15 @@
 //! The longest argument lists of the C interface, each written out once: the library, the check and the bench lend a
-//! layer, frames and motion as groups.
+//! layer, sums, frames and motion as groups.
 //!
 //! Nothing is judged here. A ratio and a plane are any numbers, as they are in C.
 
 use std::mem::size_of_val;
 
-use crate::{ffi, Channel, Frames, Motion, Pair, Plane, PlaneMut, Size};
+use crate::{
+    ffi, Channel, Frames, LayerMut, Motion, Pair, Part, Plane, PlaneMut, Settings, Size, Work,
+};
 
-/// A layer as it is lent: its numbers as `i16`, or as little-endian bytes.
-#[derive(Clone, Copy)]
-pub struct LentLayer<'a, T> {
-    /// Gains, then offsets.
-    pub luma: &'a [T],
-    /// Offsets; the distances in the second half of `chroma[1]`.
-    pub chroma: [&'a [T]; 2],
-    /// Numbers from one row's start to the next, in luma and in chroma.
-    pub pitch: (usize, usize),
-    /// The size of luma.
-    pub size: Size,
-    /// Luma pixels per chroma pixel, each way.
-    pub ratio: usize,
-}
+pub use crate::layer::LentLayer;
 
 impl<T> LentLayer<'_, T> {
     /// The size of one of its planes.
@@ -35,82 +24,72 @@ impl<T> LentLayer<'_, T> {
     }
 }
 
-/// What a layer's numbers are lent as. Each form has C functions of its own, with the same arguments.
-pub trait Form: Copy {
-    /// Lifts the layer off one plane.
-    fn peel(
-        layer: &LentLayer<'_, Self>,
-        plane: usize,
-        output: &mut PlaneMut<'_>,
-        raw: Plane<'_>,
-    ) -> u64;
-
-    /// Lays the layer back onto one plane.
-    fn unpeel(
-        layer: &LentLayer<'_, Self>,
-        plane: usize,
-        output: &mut PlaneMut<'_>,
-        frames: Frames<'_>,
-    ) -> u64;
+/// A C function on groups: the arguments of each group are written out here alone.
+macro_rules! call {
+    ($name:ident($($list:tt)*)) => {
+        call!(@ $name [] $($list)*,)
+    };
+    (@ $name:ident [$($done:expr,)*] $(,)?) => {
+        ffi::$name($($done),*)
+    };
+    (@ $name:ident [$($done:tt)*] $it:ident as size, $($rest:tt)*) => {
+        call!(@ $name [$($done)* $it.width, $it.height,] $($rest)*)
+    };
+    (@ $name:ident [$($done:tt)*] $it:ident as plane, $($rest:tt)*) => {
+        call!(@ $name [$($done)* $it.data, $it.pitch,] $($rest)*)
+    };
+    (@ $name:ident [$($done:tt)*] $it:ident as part, $($rest:tt)*) => {
+        call!(@ $name [$($done)* $it.luma, $it.chroma[0], $it.chroma[1], $it.pairs,] $($rest)*)
+    };
+    (@ $name:ident [$($done:tt)*] $it:ident as layer, $($rest:tt)*) => {
+        call!(@ $name [
+            $($done)* $it.luma, $it.chroma[0], $it.chroma[1], $it.pitch.0, $it.pitch.1,
+            $it.size.width, $it.size.height, $it.ratio,
+        ] $($rest)*)
+    };
+    (@ $name:ident [$($done:tt)*] $it:ident as frames, $($rest:tt)*) => {
+        call!(@ $name [
+            $($done)* $it.first.data, $it.first.pitch, $it.second.data, $it.second.pitch, $it.time,
+        ] $($rest)*)
+    };
+    (@ $name:ident [$($done:tt)*] $it:ident as motion, $($rest:tt)*) => {
+        call!(@ $name [
+            $($done)* $it.forward.0, $it.forward.1, $it.backward.0, $it.backward.1, $it.grid.0, $it.grid.1,
+            $it.block.0, $it.block.1, $it.origin.0, $it.origin.1, $it.pel,
+        ] $($rest)*)
+    };
+    (@ $name:ident [$($done:tt)*] $it:expr, $($rest:tt)*) => {
+        call!(@ $name [$($done)* $it,] $($rest)*)
+    };
 }
 
-macro_rules! form {
-    ($number:ty: $peel:ident, $unpeel:ident) => {
-        impl Form for $number {
-            fn peel(
-                layer: &LentLayer<'_, Self>,
-                plane: usize,
-                output: &mut PlaneMut<'_>,
-                raw: Plane<'_>,
-            ) -> u64 {
-                ffi::$peel::call(
-                    layer.luma,
-                    layer.chroma[0],
-                    layer.chroma[1],
-                    layer.pitch.0,
-                    layer.pitch.1,
-                    layer.size.width,
-                    layer.size.height,
-                    layer.ratio,
-                    plane,
-                    output.data,
-                    output.pitch,
-                    raw.data,
-                    raw.pitch,
-                )
-            }
+/// The trait `Form` of these calls, and its two forms with the C function that each has for a call.
+macro_rules! forms {
+    ($($(#[$doc:meta])* $call:ident($last:ident: $type:ty as $group:ident) is $bytes:ident or $numbers:ident;)*) => {
+        /// What a layer's numbers are lent as: bytes or `i16`. Each has C functions of its own, with the same arguments.
+        pub trait Form: Copy {
+            $($(#[$doc])*
+            fn $call(layer: &LentLayer<'_, Self>, plane: usize, output: &mut PlaneMut<'_>, $last: $type) -> u64;)*
+        }
 
-            fn unpeel(
-                layer: &LentLayer<'_, Self>,
-                plane: usize,
-                output: &mut PlaneMut<'_>,
-                frames: Frames<'_>,
-            ) -> u64 {
-                ffi::$unpeel::call(
-                    layer.luma,
-                    layer.chroma[0],
-                    layer.chroma[1],
-                    layer.pitch.0,
-                    layer.pitch.1,
-                    layer.size.width,
-                    layer.size.height,
-                    layer.ratio,
-                    plane,
-                    output.data,
-                    output.pitch,
-                    frames.first.data,
-                    frames.first.pitch,
-                    frames.second.data,
-                    frames.second.pitch,
-                    frames.time,
-                )
-            }
+        forms!(u8: $($call($last: $type as $group) is $bytes;)*);
+        forms!(i16: $($call($last: $type as $group) is $numbers;)*);
+    };
+    ($form:ty: $($call:ident($last:ident: $type:ty as $group:ident) is $function:ident;)*) => {
+        impl Form for $form {
+            $(fn $call(layer: &LentLayer<'_, Self>, plane: usize, output: &mut PlaneMut<'_>, $last: $type) -> u64 {
+                call!($function(layer as layer, plane, output as plane, $last as $group))
+            })*
         }
     };
 }
 
-form!(u8: peel, unpeel);
-form!(i16: peel_numbers, unpeel_numbers);
+forms! {
+    /// Lifts the layer off one plane.
+    peel(raw: Plane<'_> as plane) is peel or peel_numbers;
+    /// Lays the layer back onto one plane.
+    unpeel(frames: Frames<'_> as frames) is unpeel or unpeel_numbers;
+}
 
 impl LentLayer<'_, i16> {
     /// Makes one plane of an in-between frame near and under the layer.
@@ -122,50 +101,19 @@ impl LentLayer<'_, i16> {
         motion: &Motion<'_>,
         algo: i32,
     ) -> u64 {
-        ffi::render::call(
-            self.luma,
-            self.chroma[0],
-            self.chroma[1],
-            self.pitch.0,
-            self.pitch.1,
-            self.size.width,
-            self.size.height,
-            self.ratio,
+        call!(render(
+            self as layer,
             plane,
-            output.data,
-            output.pitch,
-            frames.first.data,
-            frames.first.pitch,
-            frames.second.data,
-            frames.second.pitch,
-            frames.time,
-            motion.forward.0,
-            motion.forward.1,
-            motion.backward.0,
-            motion.backward.1,
-            motion.grid.0,
-            motion.grid.1,
-            motion.block.0,
-            motion.block.1,
-            motion.origin.0,
-            motion.origin.1,
-            motion.pel,
-            algo,
-        )
+            output as plane,
+            frames as frames,
+            motion as motion,
+            algo
+        ))
     }
 
     /// Whether no cell of the layer is 0; the yes takes the count's place.
     pub fn empty(&self) -> u64 {
-        ffi::empty::call(
-            self.luma,
-            self.chroma[0],
-            self.chroma[1],
-            self.pitch.0,
-            self.pitch.1,
-            self.size.width,
-            self.size.height,
-            self.ratio,
-        )
+        call!(empty(self as layer))
     }
 }
 
@@ -178,37 +126,54 @@ pub fn stats(
     ratio: usize,
     pair: &Pair<'_>,
 ) -> u64 {
-    let (first, second, motion) = (&pair.first, &pair.second, &pair.motion);
-    ffi::stats::call(
+    let ([first0, first1, first2], [second0, second1, second2]) = (pair.first, pair.second);
+    let motion = pair.motion;
+    call!(stats(
         luma,
         chroma1,
         chroma2,
         pairs,
-        size.width,
-        size.height,
+        size as size,
         ratio,
-        first[0].data,
-        first[0].pitch,
-        first[1].data,
-        first[1].pitch,
-        first[2].data,
-        first[2].pitch,
-        second[0].data,
-        second[0].pitch,
-        second[1].data,
-        second[1].pitch,
-        second[2].data,
-        second[2].pitch,
-        motion.forward.0,
-        motion.forward.1,
-        motion.backward.0,
-        motion.backward.1,
-        motion.grid.0,
-        motion.grid.1,
-        motion.block.0,
-        motion.block.1,
-        motion.origin.0,
-        motion.origin.1,
-        motion.pel,
-    )
+        first0 as plane,
+        first1 as plane,
+        first2 as plane,
+        second0 as plane,
+        second1 as plane,
+        second2 as plane,
+        motion as motion,
+    ))
+}
+
+/// Fits a layer to a part and its neighbours.
+pub fn fit(
+    [previous, own, next]: [Part<'_>; 3],
+    size: Size,
+    settings: Settings,
+    ratio: usize,
+    work: &mut Work<'_>,
+    layer: &mut LayerMut<'_>,
+) -> u64 {
+    let Settings {
+        limit,
+        evidence,
+        strict,
+    } = settings;
+    let [chroma1, chroma2] = &mut layer.chroma;
+    call!(fit(
+        previous as part,
+        own as part,
+        next as part,
+        size as size,
+        limit,
+        evidence,
+        strict,
+        ratio,
+        work.models,
+        work.kept,
+        work.cover,
+        layer.luma,
+        chroma1,
+        chroma2,
+    ))
 }

@@ -2,6 +2,11 @@
 #![deny(unsafe_code)]
 #![warn(missing_docs)]
 
+#[macro_use]
+mod numbered;
+#[macro_use]
+mod numbers;
+
 mod answer;
 mod calls;
 mod error;
@@ -12,8 +17,8 @@ mod refusal;
 mod sums;
 
 pub use calls::*;
-pub use error::Error;
-pub use layer::{Layer, LayerBuf, LayerBytes, LayerMut};
+pub use error::{Error, Result};
+pub use layer::{Layer, LayerBuf, LayerBytes, LayerMut, LayerOf};
 pub use motion::{Frames, Motion, MotionBuf, Pair};
 pub use plane::{Channel, Frame, Mask, Plane, PlaneBuf, PlaneMut, Ratio, Size};
 pub use refusal::Refusal;

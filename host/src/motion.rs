@@ -1,4 +1,4 @@
-use crate::{Channel, Error, Frame, Plane, Refusal, Size};
+use crate::{Channel, Error, Frame, Plane, Refusal, Result, Size};
 
 /// Motion between two frames: two fields each way over a grid of blocks, 1024 being no motion.
 ///
@@ -45,7 +45,7 @@ impl MotionBuf {
     ///
     /// # Errors
     /// `Refusal::Size`; `Refusal::Motion` for more than 1024 pixels either way.
-    pub fn pan(size: Size, (right, down): (i32, i32)) -> Result<Self, Error> {
+    pub fn pan(size: Size, (right, down): (i32, i32)) -> Result<Self> {
         let call = "MotionBuf::pan";
         size.pixels(call)?;
         let grid = (
@@ -71,7 +71,7 @@ impl MotionBuf {
     ///
     /// # Errors
     /// `Refusal::Size`.
-    pub fn still(size: Size) -> Result<Self, Error> {
+    pub fn still(size: Size) -> Result<Self> {
         Self::pan(size, (0, 0))
     }
 

@@ -1,6 +1,6 @@
 use std::ops::{Index, IndexMut};
 
-use crate::{Error, Refusal};
+use crate::{Error, Refusal, Result};
 
 /// Width and height in pixels; the calls take 1 to 4096 each.
 #[derive(Clone, Copy, Debug, PartialEq, Eq, Hash)]
@@ -54,7 +54,7 @@ impl Size {
     }
 
     /// The pixels of a plane of this size, once it is known to be inside the limits: buffers can be made for it.
-    pub(crate) fn pixels(self, call: &'static str) -> Result<usize, Error> {
+    pub(crate) fn pixels(self, call: &'static str) -> Result<usize> {
         let inside = |side| (1..=4096).contains(&side);
         if inside(self.width) && inside(self.height) {
             Ok(self.width * self.height)
@@ -64,11 +64,7 @@ impl Size {
     }
 
     /// The pixels of luma and of a chroma plane, where this is luma's size.
-    pub(crate) fn pixels_of(
-        self,
-        ratio: Ratio,
-        call: &'static str,
-    ) -> Result<(usize, usize), Error> {
+    pub(crate) fn pixels_of(self, ratio: Ratio, call: &'static str) -> Result<(usize, usize)> {
         let (pixels, each) = (self.pixels(call)?, ratio.number());
         if self.divided_by(each) {
             Ok((pixels, pixels / (each * each)))
@@ -80,22 +76,15 @@ impl Size {
     }
 }
 
-/// Luma pixels per chroma pixel, each way. It has to divide both sides of luma.
-#[derive(Clone, Copy, Debug, PartialEq, Eq, Hash)]
-pub enum Ratio {
-    /// All planes have one size (4:4:4).
-    One = 1,
-    /// Chroma has half the width and half the height (4:2:0).
-    Two = 2,
-    /// Chroma has a quarter of each (4:1:0).
-    Four = 4,
-}
-
-impl Ratio {
-    /// 1, 2 or 4.
-    #[must_use]
-    pub const fn number(self) -> usize {
-        self as usize
+numbered! {
+    /// Luma pixels per chroma pixel, each way. It has to divide both sides of luma.
+    pub enum Ratio: usize {
+        /// All planes have one size (4:4:4).
+        One = 1,
+        /// Chroma has half the width and half the height (4:2:0).
+        Two = 2,
+        /// Chroma has a quarter of each (4:1:0).
+        Four = 4,
     }
 }
 
@@ -108,37 +97,21 @@ impl TryFrom<usize> for Ratio {
     /// assert_eq!(Ratio::try_from(2), Ok(Ratio::Two));
     /// assert_eq!(Ratio::try_from(3).unwrap_err().refusal(), Refusal::Ratio);
     /// ```
-    fn try_from(number: usize) -> Result<Self, Error> {
-        match number {
-            1 => Ok(Ratio::One),
-            2 => Ok(Ratio::Two),
-            4 => Ok(Ratio::Four),
-            _ => Err(Error::of("Ratio::try_from", Refusal::Ratio, |search| {
-                search
-            })),
-        }
+    fn try_from(number: usize) -> Result<Self> {
+        let none = || Error::of("Ratio::try_from", Refusal::Ratio, |search| search);
+        Self::of_number(number).ok_or_else(none)
     }
 }
 
-/// One of a frame's three planes.
-#[derive(Clone, Copy, Debug, PartialEq, Eq, Hash)]
-pub enum Channel {
-    /// Plane 0.
-    Luma = 0,
-    /// Plane 1.
-    Chroma1 = 1,
-    /// Plane 2.
-    Chroma2 = 2,
-}
-
-impl Channel {
-    /// The three in order.
-    pub const ALL: [Channel; 3] = [Channel::Luma, Channel::Chroma1, Channel::Chroma2];
-
-    /// The plane's number, 0 to 2.
-    #[must_use]
-    pub const fn number(self) -> usize {
-        self as usize
+numbered! {
+    /// One of a frame's three planes.
+    pub enum Channel: usize {
+        /// Plane 0.
+        Luma = 0,
+        /// Plane 1.
+        Chroma1 = 1,
+        /// Plane 2.
+        Chroma2 = 2,
     }
 }
 
@@ -151,6 +124,14 @@ pub struct Plane<'a> {
     pub pitch: usize,
 }
 
+impl<'a> Plane<'a> {
+    /// A plane from its bytes and its pitch.
+    #[must_use]
+    pub const fn new(data: &'a [u8], pitch: usize) -> Self {
+        Self { data, pitch }
+    }
+}
+
 /// A byte plane to write. What lies between its rows and behind them stays as it is.
 #[derive(Debug)]
 pub struct PlaneMut<'a> {
@@ -158,6 +139,14 @@ pub struct PlaneMut<'a> {
     pub data: &'a mut [u8],
     /// Bytes from one row's start to the next.
     pub pitch: usize,
+}
+
+impl<'a> PlaneMut<'a> {
+    /// A plane from its bytes and its pitch.
+    #[must_use]
+    pub fn new(data: &'a mut [u8], pitch: usize) -> Self {
+        Self { data, pitch }
+    }
 }
 
 /// A byte plane with a buffer of its own, without padding.
@@ -183,7 +172,7 @@ impl PlaneBuf {
     ///
     /// # Errors
     /// `Refusal::Size`.
-    pub fn new(size: Size, byte: u8) -> Result<Self, Error> {
+    pub fn new(size: Size, byte: u8) -> Result<Self> {
         let data = vec![byte; size.pixels("PlaneBuf::new")?];
         Ok(Self { data, size })
     }
@@ -192,7 +181,7 @@ impl PlaneBuf {
     ///
     /// # Errors
     /// `Refusal::Size`, `Refusal::Length` where there is not exactly one byte for each pixel.
-    pub fn from_bytes(size: Size, data: Vec<u8>) -> Result<Self, Error> {
+    pub fn from_bytes(size: Size, data: Vec<u8>) -> Result<Self> {
         let call = "PlaneBuf::from_bytes";
         let pixels = size.pixels(call)?;
         if data.len() == pixels {
@@ -207,19 +196,13 @@ impl PlaneBuf {
     /// The plane to read.
     #[must_use]
     pub fn plane(&self) -> Plane<'_> {
-        Plane {
-            data: &self.data,
-            pitch: self.size.width,
-        }
+        Plane::new(&self.data, self.size.width)
     }
 
     /// The plane to write.
     #[must_use]
     pub fn plane_mut(&mut self) -> PlaneMut<'_> {
-        PlaneMut {
-            data: &mut self.data,
-            pitch: self.size.width,
-        }
+        PlaneMut::new(&mut self.data, self.size.width)
     }
 
     /// Width and height.
@@ -274,7 +257,7 @@ impl Frame {
     ///
     /// # Errors
     /// `Refusal::Size`, `Refusal::Ratio`.
-    pub fn new(size: Size, ratio: Ratio, colour: [u8; 3]) -> Result<Self, Error> {
+    pub fn new(size: Size, ratio: Ratio, colour: [u8; 3]) -> Result<Self> {
         size.pixels_of(ratio, "Frame::new")?;
         let plane =
             |channel: Channel| PlaneBuf::new(size.plane(channel, ratio), colour[channel.number()]);
@@ -325,4 +308,12 @@ pub struct Mask<'a> {
     pub data: &'a [u8],
     /// Bytes in a row.
     pub width: usize,
+}
+
+impl<'a> Mask<'a> {
+    /// A mask from its bytes and its width.
+    #[must_use]
+    pub const fn new(data: &'a [u8], width: usize) -> Self {
+        Self { data, width }
+    }
 }

@@ -1,68 +1,47 @@
 use std::fmt;
 
-/// Why a call was refused, as an [`Error`](crate::Error) says it. Where several reasons hold, the one with the lowest number
-/// is given.
-///
-/// ```
-/// use safeteal::{distances, Refusal};
-///
-/// let error = distances(&mut [0, 255], 0).unwrap_err();
-/// assert_eq!(error.refusal(), Refusal::Size);
-/// assert_eq!(error.refusal().number(), 1);
-/// ```
-#[derive(Clone, Copy, Debug, PartialEq, Eq, Hash)]
-#[non_exhaustive]
-#[repr(u8)]
-pub enum Refusal {
-    /// 1: a width or height outside 1 to 4096.
-    Size = 1,
-    /// 2: a ratio other than 1, 2 or 4, or one that does not divide a size; or a mask without a whole step.
-    Ratio = 2,
-    /// 3: a pitch below its row's width or above 65,536.
-    Pitch = 3,
-    /// 4: a slice of a wrong length.
-    Length = 4,
-    /// 5: a motion number outside its range.
-    Motion = 5,
-    /// 6: a time, limit or evidence figure outside its range, or NaN.
-    Setting = 6,
-    /// 7: a number of pairs outside its range.
-    Pairs = 7,
-    /// 8: a chroma offset total that does not fit into 16 bits.
-    ChromaTotal = 8,
+numbered! {
+    /// Why a call was refused, as an [`Error`](crate::Error) says it. Where several reasons hold, the one with the lowest number
+    /// is given.
+    ///
+    /// ```
+    /// use safeteal::{distances, Refusal};
+    ///
+    /// let error = distances(&mut [0, 255], 0).unwrap_err();
+    /// assert_eq!(error.refusal(), Refusal::Size);
+    /// assert_eq!(error.refusal().number(), 1);
+    /// ```
+    #[non_exhaustive]
+    #[repr(u8)]
+    pub enum Refusal: u8 {
+        /// 1: a width or height outside 1 to 4096.
+        Size = 1,
+        /// 2: a ratio other than 1, 2 or 4, or one that does not divide a size; or a mask without a whole step.
+        Ratio = 2,
+        /// 3: a pitch below its row's width or above 65,536.
+        Pitch = 3,
+        /// 4: a slice of a wrong length.
+        Length = 4,
+        /// 5: a motion number outside its range.
+        Motion = 5,
+        /// 6: a time, limit or evidence figure outside its range, or NaN.
+        Setting = 6,
+        /// 7: a number of pairs outside its range.
+        Pairs = 7,
+        /// 8: a chroma offset total that does not fit into 16 bits.
+        ChromaTotal = 8,
+    }
 }
 
 impl Refusal {
-    const ALL: [Refusal; 8] = [
-        Refusal::Size,
-        Refusal::Ratio,
-        Refusal::Pitch,
-        Refusal::Length,
-        Refusal::Motion,
-        Refusal::Setting,
-        Refusal::Pairs,
-        Refusal::ChromaTotal,
-    ];
-
-    /// The refusal's number, 1 to 8.
-    #[must_use]
-    pub const fn number(self) -> u8 {
-        self as u8
-    }
-
     /// What an answer's number means; none for 0, which is acceptance.
     ///
     /// # Panics
     /// For a number that no call gives: then this package and the linked library do not belong together.
-    pub(crate) fn from_number(number: u64) -> Option<Self> {
-        if number == 0 {
-            return None;
-        }
-        let known = Self::ALL
-            .into_iter()
-            .find(|refusal| u64::from(refusal.number()) == number);
+    pub(crate) fn answered(number: u8) -> Option<Self> {
+        let known = Self::of_number(number);
         assert!(
-            known.is_some(),
+            number == 0 || known.is_some(),
             "the linked library answered {number}, which is no number of a refusal"
         );
         known
@@ -111,10 +90,10 @@ mod tests {
 
     #[test]
     fn numbers_and_names_agree() {
-        assert_eq!(Refusal::from_number(0), None);
+        assert_eq!(Refusal::answered(0), None);
         for (index, refusal) in Refusal::ALL.into_iter().enumerate() {
             assert_eq!(usize::from(refusal.number()), index + 1);
-            assert_eq!(Refusal::from_number(index as u64 + 1), Some(refusal));
+            assert_eq!(Refusal::answered(index as u8 + 1), Some(refusal));
             assert!(!refusal.to_string().is_empty());
         }
     }

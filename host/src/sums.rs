@@ -1,4 +1,5 @@
-use crate::{Error, Ratio, Size};
+use crate::numbers::Numbers;
+use crate::{Ratio, Result, Size};
 
 /// The sums of up to twelve pairs, to read: six numbers for each luma pixel, two for each pixel of a chroma plane.
 #[derive(Clone, Copy, Debug)]
@@ -23,11 +24,8 @@ impl Part<'_> {
 /// Sums with slices of their own.
 #[derive(Clone, Debug, PartialEq)]
 pub struct Sums {
-    pub(crate) luma: Vec<f32>,
-    pub(crate) chroma: [Vec<f32>; 2],
+    pub(crate) numbers: Numbers<f32>,
     pub(crate) pairs: usize,
-    pub(crate) size: Size,
-    pub(crate) ratio: Ratio,
 }
 
 impl Sums {
@@ -35,23 +33,17 @@ impl Sums {
     ///
     /// # Errors
     /// `Refusal::Size` and `Refusal::Ratio`, as in every call.
-    pub fn new(size: Size, ratio: Ratio) -> Result<Self, Error> {
-        let (luma, chroma) = size.pixels_of(ratio, "Sums::new")?;
-        Ok(Self {
-            luma: vec![0.0; 6 * luma],
-            chroma: [vec![0.0; 2 * chroma], vec![0.0; 2 * chroma]],
-            pairs: 0,
-            size,
-            ratio,
-        })
+    pub fn new(size: Size, ratio: Ratio) -> Result<Self> {
+        let numbers = Numbers::zeros(6, size, ratio, "Sums::new")?;
+        Ok(Self { numbers, pairs: 0 })
     }
 
     /// The sums to read, with their number of pairs.
     #[must_use]
     pub fn part(&self) -> Part<'_> {
         Part {
-            luma: &self.luma,
-            chroma: [&self.chroma[0], &self.chroma[1]],
+            luma: &self.numbers.luma,
+            chroma: self.numbers.chroma(),
             pairs: self.pairs,
         }
     }
@@ -61,16 +53,6 @@ impl Sums {
     pub fn pairs(&self) -> usize {
         self.pairs
     }
-
-    /// The size of luma.
-    #[must_use]
-    pub fn size(&self) -> Size {
-        self.size
-    }
-
-    /// Luma pixels per chroma pixel, each way.
-    #[must_use]
-    pub fn ratio(&self) -> Ratio {
-        self.ratio
-    }
 }
+
+size_and_ratio!(Sums);

@@ -59,3 +59,15 @@ fn compared(call: &safeteal::check::Call, cases: u64, seeds: &[u64]) -> Result<S
     }
     Ok(tally.line())
 }
+
+/// What crates/replay runs is what would be stored today.
+#[cfg(not(oracle_absent))]
+#[test]
+fn the_stored_answers_are_the_rusts() {
+    let file = concat!(env!("CARGO_MANIFEST_DIR"), "/../crates/replay/data/answers");
+    let stored = std::fs::read(file).expect("the stored answers");
+    assert!(
+        stored == safeteal::check::answers(),
+        "they differ: run `cargo run --release --bin record -- ../crates/replay/data/answers`, and correct crates/replay/stdout"
+    );
+}

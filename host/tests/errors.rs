@@ -18,18 +18,16 @@ fn said<T: std::fmt::Debug>(result: Result<T, Error>) -> String {
 }
 
 fn plane(length: usize, pitch: usize) -> Plane<'static> {
-    let data = &BYTES[..length];
-    Plane { data, pitch }
+    Plane::new(&BYTES[..length], pitch)
+}
+
+/// A plane to write, in rows of 4.
+fn output(length: usize) -> PlaneMut<'static> {
+    PlaneMut::new(vec![0; length].leak(), 4)
 }
 
 /// A good layer.
-const LAYER: Layer = Layer {
-    luma: NUMBERS,
-    chroma: [NUMBERS, NUMBERS],
-    pitch: (4, 2),
-    size: SIZE,
-    ratio: Ratio::Two,
-};
+const LAYER: Layer = Layer::new(NUMBERS, [NUMBERS, NUMBERS], SIZE, Ratio::Two);
 
 /// A good motion.
 const MOTION: Motion = Motion {
@@ -75,17 +73,9 @@ fn of_mask() {
 
 #[test]
 fn of_apply_and_hold() {
-    let applied = |still: Mask<'_>, time: f32| {
-        let output = PlaneMut {
-            data: &mut [0; 8],
-            pitch: 4,
-        };
-        said(apply(output, BYTES, BYTES, 4, SIZE, still, time))
-    };
-    let still = |length: usize, width: usize| Mask {
-        data: &BYTES[..length],
-        width,
-    };
+    let applied =
+        |still: Mask<'_>, time: f32| said(apply(output(8), BYTES, BYTES, 4, SIZE, still, time));
+    let still = |length: usize, width: usize| Mask::new(&BYTES[..length], width);
     assert_eq!(
         applied(still(8, 5), 0.0),
         "apply refused (2): the mask has 8 elements in rows of 5, and its width is not 1 to 8 times that of a plane of 4 by 2"
@@ -98,13 +88,7 @@ fn of_apply_and_hold() {
         applied(still(8, 4), f32::NAN),
         "apply refused (6): time is NaN and must be 0 to 1"
     );
-    let held = |held: Plane<'_>| {
-        let output = PlaneMut {
-            data: &mut [0; 7],
-            pitch: 4,
-        };
-        said(hold(output, held, SIZE, still(8, 4)))
-    };
+    let held = |held: Plane<'_>| said(hold(output(7), held, SIZE, still(8, 4)));
     assert_eq!(
         held(plane(8, 70_000)),
         "hold refused (3): the pitch of held is 70000 and must be 4 to 65536"
@@ -118,11 +102,7 @@ fn of_apply_and_hold() {
 #[test]
 fn of_peel_and_empty() {
     let words = |layer: Layer<'_>, channel: Channel, raw: Plane<'_>| {
-        let output = PlaneMut {
-            data: &mut [0; 8],
-            pitch: 4,
-        };
-        said(layer.peel(channel, output, raw))
+        said(layer.peel(channel, output(8), raw))
     };
     let size = Size::new(4, 0);
     assert_eq!(
@@ -161,19 +141,9 @@ fn of_peel_and_empty() {
 
 #[test]
 fn of_layers_lent_as_bytes() {
-    let layer = LayerBytes {
-        luma: &BYTES[..31],
-        chroma: [BYTES, BYTES],
-        pitch: (4, 2),
-        size: SIZE,
-        ratio: Ratio::Two,
-    };
-    let output = || PlaneMut {
-        data: Box::leak(Box::new([0; 8])),
-        pitch: 4,
-    };
+    let layer = LayerBytes::new(&BYTES[..31], [BYTES, BYTES], SIZE, Ratio::Two);
     assert_eq!(
-        said(layer.peel(Channel::Luma, output(), plane(8, 4))),
+        said(layer.peel(Channel::Luma, output(8), plane(8, 4))),
         "peel refused (4): `luma` has 15 elements and needs at least 16"
     );
     let frames = Frames {
@@ -182,7 +152,7 @@ fn of_layers_lent_as_bytes() {
         time: 0.5,
     };
     assert_eq!(
-        said(layer.unpeel(Channel::Luma, output(), frames)),
+        said(layer.unpeel(Channel::Luma, output(8), frames)),
         "unpeel refused (4): `luma` has 15 elements and needs at least 16"
     );
 }
@@ -194,13 +164,7 @@ fn of_unpeel_and_render() {
         second: plane(second, 4),
         time,
     };
-    let unpeeled = |frames: Frames<'_>| {
-        let output = PlaneMut {
-            data: &mut [0; 8],
-            pitch: 4,
-        };
-        said(LAYER.unpeel(Channel::Luma, output, frames))
-    };
+    let unpeeled = |frames: Frames<'_>| said(LAYER.unpeel(Channel::Luma, output(8), frames));
     assert_eq!(
         unpeeled(frames(7, 0.5)),
         "unpeel refused (4): `second` has 7 elements and needs at least 8"
@@ -210,11 +174,7 @@ fn of_unpeel_and_render() {
         "unpeel refused (6): time is -0.5 and must be 0 to 1"
     );
     let rendered = |motion: Motion<'_>, time: f32| {
-        let output = PlaneMut {
-            data: &mut [0; 8],
-            pitch: 4,
-        };
-        said(LAYER.render(Channel::Luma, output, frames(8, time), &motion, 0))
+        said(LAYER.render(Channel::Luma, output(8), frames(8, time), &motion, 0))
     };
     let grid = (1, 2);
     assert_eq!(

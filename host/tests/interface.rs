@@ -1,4 +1,4 @@
-//! The C interface is written down three times: where it is proved, in `src/ffi`, and in `safeteal.h`. They say the same.
+//! The C interface is written down three times: where it is proved, in `src/ffi.rs`, and in `safeteal.h`. They say the same.
 
 use std::collections::BTreeMap;
 use std::fs;
@@ -16,51 +16,40 @@ fn package() -> &'static Path {
     Path::new(env!("CARGO_MANIFEST_DIR"))
 }
 
-/// The functions after each `marker`, as `name(parameters) -> answer`; a parameter becomes one or more lines.
-fn functions(text: &str, marker: &str, parameter: impl Fn(&str, &str) -> Vec<String>) -> Interface {
-    let function = |text: &str| {
-        let (name, rest) = text.split_once('(').expect("parameters");
-        let (parameters, rest) = rest.split_once(')').expect("an end of the parameters");
-        let answer = rest.trim_start().strip_prefix("->").expect("an answer");
-        let answer = answer.trim_start().split([';', '\n', ' ']).next();
-        let parameters = parameters
-            .split(',')
-            .filter_map(|text| text.split_once(':'));
-        let lines = parameters.flat_map(|(name, kind)| parameter(name.trim(), kind.trim()));
-        let answer = answer.map(str::to_owned);
-        (name.to_owned(), lines.chain(answer).collect())
-    };
-    text.split(marker).skip(1).map(function).collect()
-}
-
 /// As it is proved: a slice is a pointer and a length.
 fn proved() -> Interface {
-    let text = read(&package().join("../crates/host/src/lib.rt"));
-    functions(&text, "pub extern \"C\" fn ", |name, kind| {
+    let parameter = |text: &str| {
+        let (name, kind) = text.trim().split_once(": ").expect("a name and a type");
         let slice = |prefix: &str| kind.strip_prefix(prefix)?.strip_suffix(']');
         match (slice("&mut ["), slice("&[")) {
             (Some(of), _) => vec![format!("*mut {of} {name}"), format!("usize {name}_len")],
             (_, Some(of)) => vec![format!("*const {of} {name}"), format!("usize {name}_len")],
             _ => vec![format!("{kind} {name}")],
         }
-    })
+    };
+    let function = |text: &str| {
+        let (name, rest) = text.split_once('(').expect("parameters");
+        let (parameters, rest) = rest.split_once(") -> ").expect("an answer");
+        let parameters = parameters.trim_end().trim_end_matches(',').split(',');
+        let answer = rest.split_whitespace().next().map(str::to_owned);
+        let lines = parameters.flat_map(parameter).chain(answer);
+        (name.to_owned(), lines.collect())
+    };
+    let text = read(&package().join("../crates/host/src/lib.rt"));
+    let functions = text.split("pub extern \"C\" fn ").skip(1);
+    functions.map(function).collect()
 }
 
-/// As `src/ffi` declares it.
+/// As `src/ffi.rs` declares it.
 fn declared() -> Interface {
-    let files = fs::read_dir(package().join("src/ffi")).expect("the folder src/ffi");
-    let block = |text: String| {
-        let block = text.split_once("extern \"C\" {").expect("a declaration").1;
-        let block = block.split_once("\n}").expect("its end").0;
-        functions(block, "fn ", |name, kind| vec![format!("{kind} {name}")])
-    };
-    files
-        .map(|file| read(&file.expect("a file").path()))
-        .flat_map(block)
+    let lines = |lines: &[&str]| lines.iter().map(|&line| line.to_owned()).collect();
+    let functions = safeteal::ffi::DECLARED.iter();
+    functions
+        .map(|(name, of)| ((*name).to_owned(), lines(of)))
         .collect()
 }
 
-/// As the header says it, in Rust's words for C's types.
+/// As the header says it to the C compiler, in Rust's words for C's types.
 fn header() -> Interface {
     const TYPES: [(&str, &str); 8] = [
         ("uint8_t", "u8"),
@@ -70,7 +59,7 @@ fn header() -> Interface {
         ("uint64_t", "u64"),
         ("size_t", "usize"),
         ("float", "f32"),
-        ("bool", "bool"),
+        ("_Bool", "bool"),
     ];
     let kind = |c: &str| {
         let found = TYPES.iter().find(|(name, _)| *name == c);
@@ -84,7 +73,12 @@ fn header() -> Interface {
             _ => format!("{} {name}", kind(of)),
         }
     };
-    let text = read(&package().join("safeteal.h"));
+    let expanded = Command::new("cc")
+        .args(["-std=c99", "-E", "-P"])
+        .arg(package().join("safeteal.h"))
+        .output()
+        .expect("the C compiler, which cargo links with as well");
+    let text = String::from_utf8(expanded.stdout).expect("a text");
     let declarations = text.split(";\n").filter_map(|text| {
         let (head, parameters) = text.rsplit_once('(')?;
         let (answer, name) = head.lines().last()?.split_once(" safeteal_")?;
@@ -101,7 +95,7 @@ fn the_declarations_are_those_that_are_proved() {
     assert_eq!(proved.len(), 16);
     assert_eq!((declared.len(), header.len()), (16, 16));
     for (name, lines) in &proved {
-        assert_eq!(declared.get(name), Some(lines), "{name} in src/ffi");
+        assert_eq!(declared.get(name), Some(lines), "{name} in src/ffi.rs");
         assert_eq!(header.get(name), Some(lines), "{name} in safeteal.h");
     }
 }

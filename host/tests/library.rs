@@ -6,6 +6,7 @@
 
 use safeteal::check::case::{difference, Case};
 use safeteal::check::damage::input;
+use safeteal::check::layer::Number;
 use safeteal::check::rng::Rng;
 use safeteal::check::run::fresh_seed;
 use safeteal::check::{
@@ -13,8 +14,7 @@ use safeteal::check::{
 };
 use safeteal::groups::LentLayer;
 use safeteal::{
-    Channel, Error, Layer, LayerBytes, LayerMut, Limits, Mask, Part, Plane, PlaneMut, Ratio,
-    Refusal, Settings, Size, Work,
+    Channel, Error, LayerMut, LayerOf, Limits, Mask, Plane, PlaneMut, Ratio, Refusal, Size,
 };
 
 const CASES: u64 = 4000;
@@ -87,18 +87,6 @@ fn done(answer: Result<(), Error>) -> Option<Result<u64, Error>> {
     Some(answer.map(|()| 0))
 }
 
-fn channel(plane: usize) -> Option<Channel> {
-    Channel::ALL.get(plane).copied()
-}
-
-fn plane(data: &[u8], pitch: usize) -> Plane<'_> {
-    Plane { data, pitch }
-}
-
-fn output(data: &mut [u8], pitch: usize) -> PlaneMut<'_> {
-    PlaneMut { data, pitch }
-}
-
 impl Through for distances::Distances {
     fn library(&mut self) -> Option<Result<u64, Error>> {
         done(safeteal::distances(&mut self.cells, self.width))
@@ -127,12 +115,9 @@ impl Through for mask::Mask {
 impl Through for apply::Apply {
     fn library(&mut self) -> Option<Result<u64, Error>> {
         let size = Size::new(self.width, self.height);
-        let still = Mask {
-            data: &self.still,
-            width: self.still_width,
-        };
+        let still = Mask::new(&self.still, self.still_width);
         done(safeteal::apply(
-            output(&mut self.output, self.output_pitch),
+            PlaneMut::new(&mut self.output, self.output_pitch),
             &self.first,
             &self.second,
             self.pitch,
@@ -146,70 +131,59 @@ impl Through for apply::Apply {
 impl Through for hold::Hold {
     fn library(&mut self) -> Option<Result<u64, Error>> {
         let size = Size::new(self.width, self.height);
-        let mask = Mask {
-            data: &self.mask,
-            width: self.mask_width,
-        };
-        let held = plane(&self.held, self.held_pitch);
-        let output = output(&mut self.output, self.output_pitch);
+        let mask = Mask::new(&self.mask, self.mask_width);
+        let held = Plane::new(&self.held, self.held_pitch);
+        let output = PlaneMut::new(&mut self.output, self.output_pitch);
         done(safeteal::hold(output, held, size, mask))
     }
 }
 
-/// For each form that a layer is lent in: the library's layer (none for a ratio that it cannot hold), and its calls.
-macro_rules! forms {
-    ($($form:ty: $layer:ident by $of:ident,)*) => {$(
-        fn $of(lent: LentLayer<'_, $form>) -> Option<$layer<'_>> {
-            Some($layer {
-                luma: lent.luma,
-                chroma: lent.chroma,
-                pitch: lent.pitch,
-                size: lent.size,
-                ratio: Ratio::try_from(lent.ratio).ok()?,
-            })
-        }
-
-        impl Through for peel::Peel<$form> {
-            fn library(&mut self) -> Option<Result<u64, Error>> {
-                let channel = channel(self.plane)?;
-                let (layer, output, raw) = self.lent();
-                Some($of(layer)?.peel(channel, output, raw))
-            }
-        }
-
-        impl Through for unpeel::Unpeel<$form> {
-            fn library(&mut self) -> Option<Result<u64, Error>> {
-                let channel = channel(self.plane)?;
-                let (layer, output, frames) = self.lent();
-                Some($of(layer)?.unpeel(channel, output, frames))
-            }
-        }
-    )*};
+/// The library's layer; none for a ratio that it cannot hold.
+fn layer<T>(lent: LentLayer<'_, T>) -> Option<LayerOf<'_, T>> {
+    Some(LayerOf {
+        luma: lent.luma,
+        chroma: lent.chroma,
+        pitch: lent.pitch,
+        size: lent.size,
+        ratio: Ratio::of_number(lent.ratio)?,
+    })
 }
 
-forms! {
-    i16: Layer by numbers,
-    u8: LayerBytes by bytes,
+impl<T: Number> Through for peel::Peel<T> {
+    fn library(&mut self) -> Option<Result<u64, Error>> {
+        let channel = Channel::of_number(self.plane)?;
+        let (lent, output, raw) = self.lent();
+        Some(layer(lent)?.peel(channel, output, raw))
+    }
+}
+
+impl<T: Number> Through for unpeel::Unpeel<T> {
+    fn library(&mut self) -> Option<Result<u64, Error>> {
+        let channel = Channel::of_number(self.plane)?;
+        let (lent, output, frames) = self.lent();
+        Some(layer(lent)?.unpeel(channel, output, frames))
+    }
 }
 
 impl Through for render::Render {
     fn library(&mut self) -> Option<Result<u64, Error>> {
-        let (channel, motion) = (channel(self.frames.plane)?, self.motion.lent());
-        let (layer, output, frames) = self.frames.lent();
-        Some(numbers(layer)?.render(channel, output, frames, &motion, self.algo))
+        let channel = Channel::of_number(self.frames.plane)?;
+        let (lent, output, frames) = self.frames.lent();
+        let motion = self.motion.lent();
+        Some(layer(lent)?.render(channel, output, frames, &motion, self.algo))
     }
 }
 
 impl Through for empty::Empty {
     fn library(&mut self) -> Option<Result<u64, Error>> {
-        Some(numbers(self.layer.lent())?.empty().map(u64::from))
+        Some(layer(self.layer.lent())?.empty().map(u64::from))
     }
 }
 
 impl Through for stats::Stats {
     fn library(&mut self) -> Option<Result<u64, Error>> {
         let (pairs, size) = (self.pairs, Size::new(self.width, self.height));
-        let ratio = Ratio::try_from(self.ratio).ok()?;
+        let ratio = Ratio::of_number(self.ratio)?;
         let (luma, chroma, pair) = self.lent();
         done(safeteal::stats(luma, chroma, pairs, size, ratio, &pair))
     }
@@ -223,7 +197,7 @@ impl Through for assemble::Assemble {
         };
         done(safeteal::assemble(
             Size::new(self.width, self.height),
-            Ratio::try_from(self.ratio).ok()?,
+            Ratio::of_number(self.ratio)?,
             &self.models,
             &self.cover,
             layer,
@@ -233,34 +207,9 @@ impl Through for assemble::Assemble {
 
 impl Through for fit::Fit {
     fn library(&mut self) -> Option<Result<u64, Error>> {
-        fn view(part: &fit::Part) -> Part<'_> {
-            Part {
-                luma: &part.luma,
-                chroma: [&part.chroma1, &part.chroma2],
-                pairs: part.pairs,
-            }
-        }
-        let settings = Settings {
-            limit: self.limit,
-            evidence: self.evidence,
-            strict: self.strict,
-        };
-        let work = Work {
-            models: &mut self.models,
-            kept: &mut self.kept,
-            cover: &mut self.cover,
-        };
-        let layer = LayerMut {
-            luma: &mut self.luma,
-            chroma: [&mut self.chroma1, &mut self.chroma2],
-        };
-        done(safeteal::fit(
-            [&self.previous, &self.own, &self.next].map(view),
-            Size::new(self.width, self.height),
-            Ratio::try_from(self.ratio).ok()?,
-            settings,
-            work,
-            layer,
-        ))
+        let size = Size::new(self.width, self.height);
+        let ratio = Ratio::of_number(self.ratio)?;
+        let (parts, settings, work, layer) = self.lent();
+        done(safeteal::fit(parts, size, ratio, settings, work, layer))
     }
 }

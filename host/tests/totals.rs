@@ -224,19 +224,20 @@ fn a_refusal_but_8_leaves_the_work_slices() {
     let block = even(2, &[0.5; 4], 1);
     let luma = block.luma();
     let own = block.part(&luma);
-    let refused = |parts: [Part<'_>; 3], size: Size, ratio: Ratio, settings: Settings| {
-        let (mut models, mut kept, mut cover) = ([0.25; 16], [9; 4], [8]);
-        let work = Work {
-            models: &mut models,
-            kept: &mut kept,
-            cover: &mut cover,
+    let refuses =
+        |right: Refusal, parts: [Part<'_>; 3], size: Size, ratio: Ratio, settings: Settings| {
+            let (mut models, mut kept, mut cover) = ([0.25; 16], [9; 4], [8]);
+            let work = Work {
+                models: &mut models,
+                kept: &mut kept,
+                cover: &mut cover,
+            };
+            let mut made = Outputs::new(2, 2);
+            let answer = fit(parts, size, ratio, settings, work, made.lent());
+            assert!(made.unchanged());
+            assert_eq!((models, kept, cover), ([0.25; 16], [9; 4], [8]));
+            assert_eq!(answer.expect_err("a refusal").refusal(), right);
         };
-        let mut made = Outputs::new(2, 2);
-        let answer = fit(parts, size, ratio, settings, work, made.lent());
-        assert!(made.unchanged());
-        assert_eq!((models, kept, cover), ([0.25; 16], [9; 4], [8]));
-        answer.expect_err("a refusal").refusal()
-    };
     let (square, settings) = (Size::new(2, 2), Settings::default());
     let alone = [Part::ABSENT, own, Part::ABSENT];
     let none = Part { pairs: 0, ..own };
@@ -253,31 +254,15 @@ fn a_refusal_but_8_leaves_the_work_slices() {
         evidence: -1.0,
         ..settings
     };
-    assert_eq!(
-        refused(alone, Size::new(0, 2), Ratio::Two, settings),
-        Refusal::Size
-    );
-    assert_eq!(
-        refused(alone, square, Ratio::Four, settings),
-        Refusal::Ratio
-    );
-    assert_eq!(
-        refused([short, own, own], square, Ratio::Two, settings),
-        Refusal::Length
-    );
-    assert_eq!(refused(alone, square, Ratio::Two, tight), Refusal::Setting);
-    assert_eq!(
-        refused(alone, square, Ratio::Two, negative),
-        Refusal::Setting
-    );
-    assert_eq!(
-        refused([own, none, own], square, Ratio::Two, settings),
-        Refusal::Pairs
-    );
-    assert_eq!(
-        refused([own, own, many], square, Ratio::Two, settings),
-        Refusal::Pairs
-    );
+    refuses(Refusal::Size, alone, Size::new(0, 2), Ratio::Two, settings);
+    refuses(Refusal::Ratio, alone, square, Ratio::Four, settings);
+    let lacking = [short, own, own];
+    refuses(Refusal::Length, lacking, square, Ratio::Two, settings);
+    refuses(Refusal::Setting, alone, square, Ratio::Two, tight);
+    refuses(Refusal::Setting, alone, square, Ratio::Two, negative);
+    let (empty, full) = ([own, none, own], [own, own, many]);
+    refuses(Refusal::Pairs, empty, square, Ratio::Two, settings);
+    refuses(Refusal::Pairs, full, square, Ratio::Two, settings);
 }
 
 #[test]

@@ -4,12 +4,12 @@ use mathlib.Core.List.{List, [], _∷_}
 use Prim.Native.Nat.{ℕ, _*_, _/_}
 use lib.ListN.{length}
 use Rattle.rules.specs.Forms.{Frames, Mask, scanRow, scan}
-use Rattle.rules.specs.Domain.{areSizes, havePitches, haveLengths, areSteps}
-use Rattle.rules.specs.Refusals.{firstFitting, applyRefusal}
+use Rattle.rules.specs.Refusals.{applyRefusal}
 use Rattle.rules.specs.Still.{byteSum, applyRule}
 use Rattle.cells.specs.Cells.{rowSum, sumOf, PlaneCells}
 use Rattle.pass.specs.Pass.{planeOf, PlaneIn}
-use Rattle.pass.proofs.Accepted.{passed, first-in}
+use Rattle.laws.proofs.Accepted.{row-right}
+use Rattle.pass.proofs.Accepted.{first-in}
 use Rattle.cells.proofs.Covered.{plane-cells}
 use Rattle.apply.specs.Call.{callOf, ruleBy}
 
@@ -23,16 +23,13 @@ module _ (output : List ℕ) (outputPitch : ℕ) (f : Frames) (width height : �
       → PlaneIn output outputPitch (width, height) × PlaneIn (f .first .bytes) (f .first .pitch) (width, height)
       × PlaneIn (f .second .bytes) (f .second .pitch) (width, height)
       × PlaneCells still stillWidth (stillWidth / width) (length still / (stillWidth * height)) (width, height)
-  unfolding applyRefusal firstFitting
+  unfolding applyRefusal
   runs e =
       let size : ℕ × ℕ = (width, height) in
       let m : Mask = record { bytes = still; width = stillWidth } in
       let o = planeOf output outputPitch in
-      let a = passed 0 _ (areSizes size) e in
-      let b = passed 1 _ (areSteps m size) (a .1) in
-      let c = passed 2 _ (havePitches (o ∷ f .first ∷ f .second ∷ []) size) (b .1) in
-      let d = passed 3 _ (haveLengths (o ∷ f .first ∷ f .second ∷ []) size) (c .1) in
-      let p = first-in o (f .first ∷ f .second ∷ []) size (a .0) (c .0) (d .0) in
-      let q = first-in (f .first) (f .second ∷ []) size (a .0) (p .1) (p .2) in
-      let r = first-in (f .second) [] size (a .0) (q .1) (q .2) in
-      (p .0, q .0, r .0, plane-cells m size (a .0) (b .0))
+      let ok = row-right _ refl e in
+      let p = first-in o (f .first ∷ f .second ∷ []) size (ok 0 _ refl) (ok 2 _ refl) (ok 3 _ refl) in
+      let q = first-in (f .first) (f .second ∷ []) size (ok 0 _ refl) (p .1) (p .2) in
+      let r = first-in (f .second) [] size (ok 0 _ refl) (q .1) (q .2) in
+      (p .0, q .0, r .0, plane-cells m size (ok 0 _ refl) (ok 1 _ refl))

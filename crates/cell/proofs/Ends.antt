@@ -1,15 +1,14 @@
 -- Where a cell ends, that a pixel's cell is among the chroma pixels, and the test of a gap. Assumes nothing.
-use mathlib.Core.Path.{_≡_, refl, ap, _∙_}
+use mathlib.Core.Path.{_≡_, ap, _∙_}
 use mathlib.Core.Bool.{Bool, true, false, cond}
 use Prim.Native.Nat.{ℕ, _+_, _*_, _/_, _^_, _≤_, _<_}
-use native.Mathlib.Nat.{div-eq-of-lt-le, div-mul-le-self, lt-div-mul-add, add-mul, one-mul, suc-mul, mul-comm, mul-le-mul-left, mul-le-mul-right, div-one, div-le-self, div-lt-iff-lt-mul, lt-of-le-of-lt}
+use native.Mathlib.Nat.{div-eq-of-lt-le, div-mul-le-self, lt-div-mul-add, add-mul, one-mul, mul-le-mul-left, div-one, div-le-self, div-lt-iff-lt-mul, lt-of-le-of-lt}
 use native.Mathlib.Omega.{arith}
-use lib.Dec.{T}
 use lib.IntN.{ℤ, pos}
 use lib.Signed.{leZ, mag, natAbs-le}
 use lib.Ieee.{le}
 use Rattle.rules.specs.Literals.{0·0}
-use Rattle.laws.proofs.Whole.{gap, gap-zero}
+use Rattle.laws.proofs.Whole.{gap, gap-zero, same-test}
 use Rattle.cell.specs.Cells.{CellEnd}
 
 same-cell : (j k side : ℕ) → k ≤ j → j < k / side * side + side → j / side ≡ k / side
@@ -34,19 +33,8 @@ cell-in true n r k small whole below =
     div-lt-iff-lt-mul {k = 8} {x = k} {y = n / r} (omega arith) .1 (omega arith)
 cell-in false n r k small whole below = lt-of-le-of-lt (div-le-self k (8 / r)) below
 
--- a place in the second of two halves
-pub second-in : (row rows pitch col : ℕ) → row < rows → col < pitch → (rows + row) * pitch + col < 2 * (pitch * rows)
-second-in row rows pitch col below left =
-    omega (arith, suc-mul row pitch, mul-le-mul-right pitch below, mul-comm rows pitch, add-mul rows row pitch)
-
 -- "at most 0 exactly when the stored number is at most 1"
 pub gap-test : (d : ℤ) → mag d < 2 ^ 15 → leZ d (pos 1) ≡ le (gap d) 0·0
 gap-test d small =
     let h = gap-zero d (natAbs-le d small) in
-    same (leZ d (pos 1)) (le (gap d) 0·0) (h .1) (h .0)
-  where
-    same : (a b : Bool) → (T a → T b) → (T b → T a) → a ≡ b
-    same true true f g = refl
-    same true false f g = absurd (f tt)
-    same false true f g = absurd (g tt)
-    same false false f g = refl
+    same-test (leZ d (pos 1)) (le (gap d) 0·0) (h .1) (h .0)

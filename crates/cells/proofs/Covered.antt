@@ -7,8 +7,7 @@ use lib.Dec.{leb, eqb}
 use lib.ListN.{length}
 use Rattle.rules.specs.Forms.{Mask}
 use Rattle.rules.specs.Domain.{areSizes, isStep, areSteps}
-use Rattle.laws.proofs.Accepted.{both}
-use Rattle.pass.proofs.Accepted.{sizes-in}
+use Rattle.laws.proofs.Accepted.{both, sizes-in}
 use Rattle.cells.specs.Cells.{PlaneCells}
 
 -- both steps are these
@@ -29,4 +28,4 @@ plane-cells m size s e =
     let t = both (isStep (size .0) (m .width)) (isStep (m .width * size .1) (length (m .bytes))) e in
     let across = step-in (size .0) (m .width) (t .0) in
     let down = step-in (m .width * size .1) (length (m .bytes)) (t .1) in
-    record { near = (z .1, z .3); some = (across .1, down .1); small = (across .2, down .2); wide = sym (across .0); long = down .0 }
+    record { near = (z .0 .1, z .1 .1); some = (across .1, down .1); small = (across .2, down .2); wide = sym (across .0); long = down .0 }

@@ -17,18 +17,48 @@ fn unmarked(b: &[i16], row: usize, pitch: usize, x: usize) -> bool
     b[k] != 0
 }
 
-// None of a row is 0. The row is gone through to its end: a loop without a branch.
-fn row_unmarked(b: &[i16], row: usize, pitch: usize, width: usize) -> bool
-    requires { ⌜ InRow (now b) row pitch width ⌝ }
+// None of the first eight of a row is 0.
+fn eight_unmarked(b: &[i16], row: usize, pitch: usize) -> bool
+    requires { ⌜ InRow (now b) row pitch 8 ⌝ }
+    ensures { λ r. ⌜ r ≡ rowUnmarked (now (b .entry)) row pitch 8 ⌝ }
+{
+    let two = plane::both(unmarked(b, row, pitch, 0), unmarked(b, row, pitch, 1));
+    let four = plane::all(two, unmarked(b, row, pitch, 2), unmarked(b, row, pitch, 3));
+    let six = plane::all(four, unmarked(b, row, pitch, 4), unmarked(b, row, pitch, 5));
+    plane::all(six, unmarked(b, row, pitch, 6), unmarked(b, row, pitch, 7))
+}
+
+// None of a row is 0, if none of those before a column is. The row is gone through to its end: a loop without a branch.
+fn rest_unmarked(
+    b: &[i16],
+    row: usize,
+    pitch: usize,
+    width: usize,
+    from: usize,
+    before: bool,
+) -> bool
+    requires { ⌜ InRow (now b) row pitch width × (from ≤ width) × (before ≡ rowUnmarked (now b) row pitch from) ⌝ }
     ensures { λ r. ⌜ r ≡ rowUnmarked (now (b .entry)) row pitch width ⌝ }
 {
-    let mut none = true;
-    let mut x = 0;
+    let mut none = before;
+    let mut x = from;
     while x < width {
         none = plane::both(none, unmarked(b, row, pitch, x));
         x += 1;
     }
     none
+}
+
+// None of a row is 0. The loop is too wide for a short row, of which eight are read at once.
+fn row_unmarked(b: &[i16], row: usize, pitch: usize, width: usize) -> bool
+    requires { ⌜ InRow (now b) row pitch width ⌝ }
+    ensures { λ r. ⌜ r ≡ rowUnmarked (now (b .entry)) row pitch width ⌝ }
+{
+    if 8 <= width && width < 16 {
+        let eight = eight_unmarked(b, row, pitch);
+        return rest_unmarked(b, row, pitch, width, 8, eight);
+    }
+    rest_unmarked(b, row, pitch, width, 0, true)
 }
 
 // None of so many rows is, from a first on. The first row with a 0 is the last one read.

@@ -15,7 +15,7 @@ use Rattle.rules.specs.declared.Found.{Found}
 use Rattle.rules.specs.declared.Found.the-variants.{At, Nothing}
 use Rattle.rules.specs.Forms.{Parts, any, cells, area}
 use Rattle.rules.specs.Literals.{1·7, 4·0}
-use Rattle.rules.specs.Float.{_⊕_, _⊗_, _≺_, _≼_, abs}
+use Rattle.rules.specs.Float.{_⊕_, _⊗_, _≺_, _≼_}
 use Rattle.rules.specs.Calls.{FitCall}
 use Rattle.rules.specs.Model.{Fitted, unfitted, plain, set, isPlain}
 use Rattle.rules.specs.Window.{found, pick, window, fitted}
@@ -24,7 +24,8 @@ use Rattle.rules.specs.Distances.{distances}
 use Rattle.rules.specs.Fit.{rough, fitModels, fitCover}
 use Rattle.laws.proofs.Order.{le-trans-float}
 use Rattle.laws.proofs.Value.{T-of}
-use Rattle.laws.proofs.Lists.{length-tabulate, tabulate-both, any-mono, howMany-mono, distances-mono, distances-small}
+use Rattle.laws.proofs.Points.{set-plain}
+use Rattle.laws.proofs.Lists.{either, length-tabulate, tabulate-both, any-mono, howMany-mono, distances-mono, distances-small}
 use Rattle.evidence.specs.Evidence.{FitTwice}
 
 -- ---- the window
@@ -69,10 +70,6 @@ rough-grows first second t k =
     (inl refl))
 
 -- ---- keeping
-
-set-plain : set plain ≡ false
-unfolding set abs Ieee.lt Ieee.sub Ieee.ofBits
-set-plain = refl
 
 plain-plain : isPlain plain ≡ true
 unfolding isPlain Ieee.eq Ieee.ofBits
@@ -140,11 +137,7 @@ module _ (r r' : List Fitted) (g : Grows r r') (size : ℕ × ℕ) where
 cover-small : (r : List Fitted) (size : ℕ × ℕ) (k : ℕ) → getD (cover r size) k 0 ≤ 255
 unfolding cover
 cover-small r size k =
-    tabulate-both {B = ℕ} (λ a b. a ≤ 255) (cells (size .0) * cells (size .1)) _ (λ j. 0) 0 0 k (λ below. go (any (area size) (marks r size k))) (omega arith)
-  where
-    go : (b : Bool) → cond b 0 255 ≤ 255
-    go true = omega arith
-    go false = omega arith
+    tabulate-both {B = ℕ} (λ a b. a ≤ 255) (cells (size .0) * cells (size .1)) _ (λ j. 0) 0 0 k (λ below. either (any (area size) (marks r size k)) 0 255 255 (omega arith) (omega arith)) (omega arith)
 
 cover-length : (r : List Fitted) (size : ℕ × ℕ) → length (cover r size) ≡ cells (size .0) * cells (size .1)
 unfolding cover

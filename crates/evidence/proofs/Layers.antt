@@ -4,11 +4,11 @@ use mathlib.Core.Logic.{inl, inr}
 use mathlib.Core.Bool.{Bool, true, false, not, cond, _&&_}
 use mathlib.Core.List.{List}
 use Prim.Native.Nat.{ℕ, _+_, _-_, _*_, _^_, _≤_, _<_, _/_, _%_}
-use native.Mathlib.Nat.{add-mul, mul-comm, suc-mul, mul-le-mul-right}
+use native.Mathlib.Nat.{le-trans, add-mul, mul-comm}
 use native.Mathlib.Omega.{arith}
 use borrow.Author.Tests.{lt-ltb, le-ltb}
 use lib.IntN.{ℤ, pos, natAbs}
-use lib.Dec.{T, ltb}
+use lib.Dec.{T, ltb, lit≤}
 use lib.ListN.{getD}
 use lib.Ieee as Ieee
 use lib.Ieee.Fits.{and-i, and-l, and-r}
@@ -22,17 +22,14 @@ use Rattle.rules.specs.Model.{Fitted, plain, isPlain}
 use Rattle.rules.specs.Keeping.{modelOf}
 use Rattle.rules.specs.Assembly.{storedGain, storedOffset, lumaEntry, cellEntry, assembled}
 use Rattle.rules.specs.Reading.{layerOf, cell, lumaGain, lumaTexel}
-use Rattle.laws.proofs.Lists.{getD-tabulate, tabulate-both}
+use Rattle.laws.proofs.Lists.{place-in, getD-tabulate, tabulate-both}
 use Rattle.laws.proofs.Points.{stored-small}
 use Rattle.evidence.specs.Evidence.{pair, noPair}
 use Rattle.evidence.proofs.Growth.{Grown}
 
 -- ---- places
 
--- pixel (x, y) of the first plane, and of the second
-in-first : (x y w h : ℕ) → x < w → y < h → y * w + x < w * h
-in-first x y w h a b = omega (arith, suc-mul y w, mul-le-mul-right w b, mul-comm w h)
-
+-- pixel (x, y) of the second plane
 in-second : (x y w h : ℕ) → (h + y) * w + x ≡ w * h + (y * w + x)
 in-second x y w h = omega (arith, add-mul h y w, mul-comm w h)
 
@@ -66,7 +63,7 @@ module _ (m : List Fitted) (v : List ℕ) (size : ℕ × ℕ) (ratio x y : ℕ) 
   pair-is =
       let i = y * size .0 + x in
       let n = area size in
-      let h : i < n = in-first x y (size .0) (size .1) across down in
+      let h : i < n = place-in down across in
       rw (
         in-second x y (size .0) (size .1),
         getD-tabulate (2 * n) (lumaEntry m n) i (pos 0) (omega arith),
@@ -76,7 +73,7 @@ module _ (m : List Fitted) (v : List ℕ) (size : ℕ × ℕ) (ratio x y : ℕ) 
       )
 
   pub gain-small : natAbs (lumaGain (made m v size ratio) x y .0) ≤ 2 ^ 15
-  gain-small = subst (λ (p : Gain × Offset). natAbs (p .0 .0) ≤ 2 ^ 15) (sym pair-is) (stored-small _ 4096·0)
+  gain-small = subst (λ (p : Gain × Offset). natAbs (p .0 .0) ≤ 2 ^ 15) (sym pair-is) (le-trans (stored-small _ 4096·0) (lit≤ tt))
 
 -- ---- cells
 

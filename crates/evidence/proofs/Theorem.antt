@@ -1,5 +1,5 @@
 -- Demand 3, proved. Assumes nothing.
-use mathlib.Core.Path.{_≡_, sym, ap, subst₂}
+use mathlib.Core.Path.{_≡_, refl, sym, ap, subst₂}
 use mathlib.Core.Logic.{_⊎_, inl, inr, _≢_}
 use mathlib.Core.Bool.{Bool, true, not, _||_, false≢true, or-false}
 use mathlib.Core.List.{List}
@@ -26,7 +26,7 @@ use Rattle.rules.specs.Calls.{FitCall}
 use Rattle.rules.specs.Refusals.{peelRefusal, unpeelRefusal, renderRefusal}
 use Rattle.rules.specs.Model.{Fitted, unfitted}
 use Rattle.rules.specs.Fit.{fitModels, fitCover, fitRefusal, fitLeaves}
-use Rattle.rules.specs.Reading.{cell, distance, gap, lumaGain, lumaTexel, texel, modelAt, at, sample}
+use Rattle.rules.specs.Reading.{cell, distance, gap, lumaGain, lumaTexel, texel, at, sample}
 use Rattle.rules.specs.Scene.{value, lift, lifted, under, filled, scene}
 use Rattle.rules.specs.Peel.{layered, peelRule}
 use Rattle.rules.specs.Unpeel.{relaid, unpeelRule}
@@ -35,7 +35,7 @@ use Rattle.laws.proofs.Value.{T-of}
 use Rattle.laws.proofs.Order.{le-trans-float, not-shut}
 use Rattle.laws.proofs.Whole.{gap-mono}
 use Rattle.laws.proofs.Raster.{painted-at, counted-mono}
-use Rattle.laws.proofs.Points.{cut-float, fraction-float, fifth}
+use Rattle.laws.proofs.Points.{model-whole, fifth}
 use Rattle.laws.proofs.Accepted.{Over, place, layer-passed}
 use Rattle.evidence.specs.Evidence.{FitTwice, layerLeft, pair, noPair, Later, peelLuma, unpeelLuma, renderPlane, Run, run, Accepted, isLarge, promised, KeepsRun, Keeps, DemandThree}
 use Rattle.evidence.proofs.Growth.{Grown, Grows, models-fit, cover-fit, cover-fits}
@@ -85,16 +85,11 @@ keeps-run l plane output rule rule' n n' promise o e e' more same =
 
 -- ---- what a luma pixel shows
 
--- at a pixel the model is its texel
-model-at : (l : Layer) (plane x y : ℕ) → x ≤ 4096 → y ≤ 4096 → modelAt l plane (float x) (float y) ≡ texel l plane x y
-unfolding modelAt
-model-at l plane x y a b = rw (fraction-float x a, fraction-float y b, cut-float x a, cut-float y b)
-
 -- where the gain is large, the scene is the pixel's own, lifted
 scene-at : (l : Layer) (plane : ℕ) (raw : Plane) (x y : ℕ) → x ≤ 4096 → y ≤ 4096 → T (0·2 ≼ abs (texel l plane x y .gain))
     → scene l plane raw (float x) (float y) true ≡ Lifted (lift (sample raw (float x) (float y) (planeSize l plane)) (texel l plane x y))
 unfolding scene under lifted filled
-scene-at l plane raw x y a b t = rw (model-at l plane x y a b, is-true (0·2 ≼ abs (texel l plane x y .gain)) t)
+scene-at l plane raw x y a b t = rw (model-whole l plane x y a b, is-true (0·2 ≼ abs (texel l plane x y .gain)) t)
 
 -- at least n, or at most its negative, by size
 by-size : (n : ℕ) (z : ℤ) → (leZ (pos n) z || leZ z (negℤ (pos n))) ≡ true → n ≤ natAbs z
@@ -199,20 +194,20 @@ module _ (a : Two) where
   later : (call : Later) → Accepted (run call l) → Accepted (run call l') → KeepsRun (run call l) (run call l') (promised call l)
   unfolding peelRule unpeelRule renderRule ownSteps peelRefusal unpeelRefusal renderRefusal
   later (peelLuma output raw) e e' =
-      let o = layer-passed l 0 output _ _ e in
+      let o = layer-passed l 0 output _ _ e refl in
       keeps-run l 0 output (peelRule l 0 raw) (peelRule l' 0 raw) _ _ (promised (peelLuma output raw) l) o e e'
       (λ x y across down t. again x y across down t .0)
       (λ x y across down t p old.
       ap (λ (s : Scene). pixel (value s))
       (scene-again raw x y (omega (arith, o .wide)) (omega (arith, o .tall)) (again x y across down t .1) (large x y across down p)))
   later (unpeelLuma output frames) e e' =
-      keeps-run l 0 output (unpeelRule l 0 frames) (unpeelRule l' 0 frames) _ _ (promised (unpeelLuma output frames) l) (layer-passed l 0 output _ _ e) e e'
+      keeps-run l 0 output (unpeelRule l 0 frames) (unpeelRule l' 0 frames) _ _ (promised (unpeelLuma output frames) l) (layer-passed l 0 output _ _ e refl) e e'
       (λ x y across down t. again x y across down t .0)
       (λ x y across down t p old.
       ap (λ (u : Model). pixel (relaid u (at (frames .first) x y) (at (frames .second) x y) (frames .time) (float old))) (again x y across down t .1))
   later (renderPlane plane output frames motion algo) e e' =
       keeps-run l plane output (renderRule l plane frames motion algo) (renderRule l' plane frames motion algo) _ _
-      (promised (renderPlane plane output frames motion algo) l) (layer-passed l plane output _ _ e) e e'
+      (promised (renderPlane plane output frames motion algo) l) (layer-passed l plane output _ _ e refl) e e'
       (λ x y across down. rendered-still _ _ (gap l plane x y) (gap l' plane x y) (gap-lower plane x y))
       (λ x y across down t p. absurd (false≢true p))
 

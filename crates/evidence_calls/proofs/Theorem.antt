@@ -1,6 +1,6 @@
 -- Demand 3 of the exported calls, from the theorem of the definitions. Assumes nothing.
 use mathlib.Core.Path.{_≡_, ap}
-use mathlib.Core.Bool.{Bool, true, false, cond, _&&_}
+use mathlib.Core.Bool.{Bool, true, _&&_}
 use mathlib.Core.List.{List, [], _∷_}
 use Prim.Native.Nat.{ℕ, _+_, _*_, _/_, _%_, _≤_}
 use native.Mathlib.Omega.{arith}
@@ -11,6 +11,7 @@ use Rattle.rules.specs.Calls.{FitCall}
 use Rattle.rules.specs.Refusals.{Table, firstFitting, fitTable, peelRefusal, unpeelRefusal, renderRefusal}
 use Rattle.rules.specs.Fit.{fitRefusal}
 use Rattle.rules.specs.Reading.{layerOf}
+use Rattle.laws.proofs.Lists.{either}
 use Rattle.host.specs.Told.{Told}
 use Rattle.evidence.specs.Evidence.{layerLeft, Later, peelLuma, unpeelLuma, renderPlane, run, Keeps}
 use Rattle.evidence.proofs.Theorem.{demand-three}
@@ -25,11 +26,7 @@ small (row ∷ rest) = leb (row .0) 8 && small rest
 few : (t : Table) → T (small t) → firstFitting t ≤ 8
 unfolding firstFitting small
 few [] s = omega arith
-few (row ∷ rest) s = chosen (row .1) (row .0) (firstFitting rest) (leb→le (row .0) 8 (and-l (leb (row .0) 8) (small rest) s)) (few rest (and-r (leb (row .0) 8) (small rest) s))
-  where
-    chosen : (fits : Bool) (n rest : ℕ) → n ≤ 8 → rest ≤ 8 → cond fits n rest ≤ 8
-    chosen true n rest a b = a
-    chosen false n rest a b = b
+few (row ∷ rest) s = either (row .1) (row .0) (firstFitting rest) 8 (leb→le (row .0) 8 (and-l (leb (row .0) 8) (small rest) s)) (few rest (and-r (leb (row .0) 8) (small rest) s))
 
 low : (k n r : ℕ) → n ≤ 8 → r ≡ k * 256 + n → r % 256 ≡ 0 → n ≡ 0
 low k n r = omega arith

@@ -1,5 +1,5 @@
 -- `x != x` is the test for a NaN. `x < 0` is the sign. Assumes nothing.
-use mathlib.Core.Path.{_≡_, refl, sym, ap}
+use mathlib.Core.Path.{_≡_, refl, sym, ap, _∙_}
 use mathlib.Core.Bool.{Bool, true, false, not, _&&_, _||_, Bool·beq, true≢false, false≢true}
 use Prim.Native.Nat.{ℕ, zero, suc, _+_, _*_, _^_, _≤_, _<_}
 use native.Mathlib.Nat.{mul-pos, zero-lt-suc}
@@ -11,6 +11,7 @@ use lib.Ieee.{Float, nan, inf, fin, binary32, up, down, ne, lt, eq, neg, isNan, 
 use lib.Ieee.Bits.{is-true}
 use lib.Ieee.Fits.{and-i, and-l, eq→eqb, up-pos}
 use Rattle.rules.specs.Float.{abs as absOf}
+use Rattle.laws.proofs.Order.{neither}
 use Rattle.laws.proofs.Value.{T-of, not-of, no}
 
 pub ne-self : (x : Float) → ne x x ≡ isNan x
@@ -76,10 +77,5 @@ abs-above (fin true m e) a b =
     let x = m * up e * 1 in
     let y = 0 * 1 * down e in
     let l : x + y ≤ 0 = nltb→le 0 (x + y) (not-of (ltb 0 (x + y)) a) in
-    absurd (no (eqb x y && eqb x 0) b (and-i (eqb x y) (eqb x 0) (eq→eqb (same x y l)) (eq→eqb (first x y l))))
-  where
-    same : (x y : ℕ) → x + y ≤ 0 → x ≡ y
-    same x y h = omega arith
-
-    first : (x y : ℕ) → x + y ≤ 0 → x ≡ 0
-    first x y h = omega arith
+    let n = neither x y l in
+    absurd (no (eqb x y && eqb x 0) b (and-i (eqb x y) (eqb x 0) (eq→eqb (n .0 ∙ sym (n .1))) (eq→eqb (n .0))))

@@ -1,10 +1,9 @@
 -- What the first pixels of the keeping pass leave in the kept bytes and in the cells. Assumes nothing.
 use mathlib.Core.Path.{_≡_, refl, sym, _∙_}
 use mathlib.Core.Bool.{Bool, true, false, cond, _&&_, _||_}
-use mathlib.Core.Logic.{_⊎_, ⊎-elim}
+use mathlib.Core.Logic.{⊎-elim}
 use mathlib.Core.List.{List}
 use Prim.Native.Nat.{ℕ, zero, suc, _≤_, _<_}
-use native.Mathlib.Nat.{eq-or-lt-of-le}
 use native.Mathlib.Omega.{arith}
 use borrow.Author.Tests.{eqb-true, eqb-false, eq-eqb, ne-eqb}
 use lib.Dec.{eqb}
@@ -13,15 +12,13 @@ use lib.Seq.{getD-set-same, getD-set-other}
 use Rattle.rules.specs.Forms.{turns, any}
 use Rattle.rules.specs.Model.{Fitted, unfitted}
 use Rattle.rules.specs.Keeping.{cellOf, marks}
+use Rattle.table.proofs.Laws.{last}
 use Rattle.near.specs.declared.Verdict.{Verdict}
 use Rattle.near.specs.declared.Verdict.the-variants.{Dropped, Unmarked, Marked}
 use Rattle.near.specs.Verdict.{verdictOf}
 use Rattle.keep.specs.Pass.{marked, step}
 use Rattle.keep.proofs.Steps.{step-none, step-some}
 use Rattle.keep.proofs.Verdicts.{isMarked, byteOf, marks-is, marks-none}
-
-last : (k n : ℕ) → k < suc n → (k ≡ n) ⊎ (k < n)
-last k n h = eq-or-lt-of-le (omega arith)
 
 -- ---- one verdict
 

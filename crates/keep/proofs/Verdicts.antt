@@ -5,10 +5,9 @@ use mathlib.Core.List.{List}
 use Prim.Native.Nat.{ℕ, _/_, _%_}
 use lib.Dec.{leb, eqb}
 use lib.ListN.{getD}
-use lib.Ieee.{ofBits, sub, lt}
-use Rattle.rules.specs.Float.{abs}
-use Rattle.rules.specs.Model.{Fitted, unfitted, plain, set, isPlain}
+use Rattle.rules.specs.Model.{Fitted, unfitted, set, isPlain}
 use Rattle.rules.specs.Keeping.{modelOf, near, kept, cellOf, marks}
+use Rattle.laws.proofs.Points.{set-plain}
 use Rattle.near.specs.declared.Verdict.{Verdict}
 use Rattle.near.specs.declared.Verdict.the-variants.{Dropped, Unmarked, Marked}
 use Rattle.near.specs.Verdict.{verdictOf}
@@ -28,10 +27,6 @@ abbrev pub byteOf : Verdict → ℕ
 byteOf Dropped = 2
 byteOf Unmarked = 1
 byteOf Marked = 1
-
-plain-unset : set plain ≡ false
-unfolding ofBits sub lt abs set
-plain-unset = refl
 
 module _ (rough : List Fitted) (size : ℕ × ℕ) (at : ℕ) where
   pub kept-is : kept rough size at ≡ isKept (verdictOf rough size at)
@@ -57,7 +52,7 @@ module _ (rough : List Fitted) (size : ℕ × ℕ) (at : ℕ) where
   -- (1, 0) marks nothing
   pub marks-none : (cell : ℕ) → getD rough at unfitted ≡ unfitted → marks rough size cell at ≡ false
   unfolding marks
-  marks-none cell e = go (set (modelOf rough at)) (kept rough size at) (eqb (cellOf (size .0) at) cell) (ap (λ (m : Fitted). set (m .model)) e ∙ plain-unset)
+  marks-none cell e = go (set (modelOf rough at)) (kept rough size at) (eqb (cellOf (size .0) at) cell) (ap (λ (m : Fitted). set (m .model)) e ∙ set-plain)
     where
       go : (a b c : Bool) → a ≡ false → (a && b && c) ≡ false
       go true b c q = absurd (false≢true (sym q))

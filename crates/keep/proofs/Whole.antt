@@ -1,10 +1,10 @@
 -- The whole pass: which models stay, and the cover. Assumes nothing.
 use mathlib.Core.Path.{_≡_, refl, sym, ap, _∙_}
 use mathlib.Core.Bool.{Bool, true, false, cond}
-use mathlib.Core.Logic.{_⊎_, ⊎-elim}
+use mathlib.Core.Logic.{⊎-elim}
 use mathlib.Core.List.{List}
 use Prim.Native.Nat.{ℕ, zero, suc, _*_, _≤_, _<_}
-use native.Mathlib.Nat.{eq-or-lt-of-le, mul-comm}
+use native.Mathlib.Nat.{mul-comm}
 use native.Mathlib.Omega.{arith}
 use borrow.Author.Tests.{eqb-true}
 use lib.Dec.{eqb}
@@ -19,15 +19,13 @@ use Rattle.table.specs.Models.{modelAt, modelPut}
 use Rattle.laws.proofs.Lists.{is-table, table-same}
 use Rattle.table.proofs.Models.{model-at, put-same, put-other}
 use Rattle.table.proofs.Turns.{scan-flat}
+use Rattle.table.proofs.Laws.{last}
 use Rattle.near.specs.declared.Verdict.{Verdict}
 use Rattle.near.specs.declared.Verdict.the-variants.{Dropped, Unmarked, Marked}
 use Rattle.near.specs.Verdict.{verdictOf}
 use Rattle.keep.specs.Pass.{step, stepAt, resetStep, Sound, Flagged, Kept}
 use Rattle.keep.proofs.Verdicts.{isKept, byteOf, kept-is}
 use Rattle.keep.proofs.Pass.{Passed, passed}
-
-last : (k n : ℕ) → k < suc n → (k ≡ n) ⊎ (k < n)
-last k n h = eq-or-lt-of-le (omega arith)
 
 -- ---- the models that are not kept
 

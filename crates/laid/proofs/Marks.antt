@@ -6,14 +6,14 @@ use Prim.Native.Nat.{ℕ, _+_, _≤_}
 use native.Mathlib.Omega.{arith}
 use lib.ListN.{getD, set}
 use lib.Seq.{set-getD}
+use Rattle.laws.proofs.Lists.{either}
 use Rattle.plane.specs.declared.Dot.the-variants.{Keep, Put}
 use Rattle.plane.specs.Done.{stamped, tallied, Stamped}
 use Rattle.laid.specs.declared.Stroke.{Stroke}
-use Rattle.laid.specs.Luma.{dotOf}
+use Rattle.laid.specs.Stroke.{dotOf}
 
 pub step : (b : Bool) → cond b 1 0 ≤ 1
-step true = omega arith
-step false = omega arith
+step b = either b 1 0 1 (omega arith) (omega arith)
 
 -- a pixel that is not written is stored as it was
 pub marked : (d : Stroke) (bytes after : List ℕ) (k count r : ℕ) → after ≡ set bytes k (cond (d .put) (d .byte) (getD bytes k 0)) → r ≡ count + cond (d .put) 1 0

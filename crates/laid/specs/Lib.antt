@@ -1,1 +1,1 @@
-pub mod Luma
+pub mod Stroke

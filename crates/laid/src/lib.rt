@@ -1,14 +1,12 @@
-// Unpeel of a luma pixel without a branch, so that a run of them goes fast whatever they hold.
+// Unpeel of a pixel without a branch, so that a run of them goes fast whatever they hold.
 use rules::Model;
-use rules::Offset;
 ghost use mathlib.Core.Path.{_≡_};
 ghost use mathlib.Core.Bool.{cond};
 ghost use Prim.Native.Nat.{_<_, _^_};
 ghost use lib.ListN.{length};
 ghost use Rattle.rules.specs.Reading.{at};
 ghost use Rattle.plane.specs.Done.{Stamped};
-ghost use Rattle.lent.specs.Lent.{lent};
-ghost use Rattle.laid.specs.Luma.{modelAt, LumaIn, ByteIn, IsLaid, dotOf};
+ghost use Rattle.laid.specs.Stroke.{ByteIn, IsLaid, dotOf};
 
 // What is done to a pixel: whether it is written, and the byte that is put there then.
 pub struct Stroke {
@@ -23,40 +21,15 @@ fn kept(b: bool, new: u8, old: u8) -> u8
     if b { new } else { old }
 }
 
-fn one_if(b: bool) -> usize
+fn one_if(b: bool) -> u32
     ensures { λ r. ⌜ r ≡ cond b 1 0 ⌝ }
 {
     if b { 1 } else { 0 }
 }
 
-// The model of a luma pixel.
-fn model(
-    packed: bool,
-    l: &[i16],
-    lb: &[u8],
-    pitch: usize,
-    height: usize,
-    x: usize,
-    y: usize,
-) -> Model
-    requires { ⌜ LumaIn (lent packed (now l) (now lb)) pitch height x y ⌝ }
-    ensures { λ r. ⌜ r ≡ modelAt (lent packed (now (l .entry)) (now (lb .entry))) pitch height x y ⌝ }
-{
-    let g = lent::entry(packed, l, lb, plane::place(y, pitch, x));
-    let o = lent::entry(packed, l, lb, plane::place(height + y, pitch, x));
-    Model {
-        gain: float::of_stored(g) / 4096.0,
-        offset: texel::offset_of(Offset(o)),
-    }
-}
-
-// What is done to a luma pixel of a near cell.
+// What is done to a pixel of a near cell.
 pub fn laid(
-    packed: bool,
-    l: &[i16],
-    lb: &[u8],
-    pitch: usize,
-    height: usize,
+    m: Model,
     first: &[u8],
     fpitch: usize,
     second: &[u8],
@@ -66,10 +39,9 @@ pub fn laid(
     time: f32,
     old: u8,
 ) -> Stroke
-    requires { ⌜ LumaIn (lent packed (now l) (now lb)) pitch height x y × ByteIn (now first) fpitch x y × ByteIn (now second) spitch x y ⌝ }
-    ensures { λ r. ⌜ IsLaid (modelAt (lent packed (now (l .entry)) (now (lb .entry))) pitch height x y) (at (record { bytes = now (first .entry); pitch = fpitch }) x y) (at (record { bytes = now (second .entry); pitch = spitch }) x y) time old r ⌝ }
+    requires { ⌜ ByteIn (now first) fpitch x y × ByteIn (now second) spitch x y ⌝ }
+    ensures { λ r. ⌜ IsLaid m (at (record { bytes = now (first .entry); pitch = fpitch }) x y) (at (record { bytes = now (second .entry); pitch = spitch }) x y) time old r ⌝ }
 {
-    let m = model(packed, l, lb, pitch, height, x, y);
     let f = sample::at(first, fpitch, x, y);
     let s = sample::at(second, spitch, x, y);
     let byte = float::pixel(lift::relaid(m, f, s, time, float::of_byte(old)));
@@ -79,9 +51,10 @@ pub fn laid(
     }
 }
 
-// The pixel is stored, whether it is written or not, and counted if it is.
-pub fn mark(output: &mut [u8], k: usize, d: Stroke, count: usize) -> usize
-    requires { ⌜ (k < length (now output)) × (count < 2 ^ 63) ⌝ }
+// The pixel is stored, whether it is written or not, and counted if it is. A run's count is as wide as a float, so that
+// they go side by side.
+pub fn mark(output: &mut [u8], k: usize, d: Stroke, count: u32) -> u32
+    requires { ⌜ (k < length (now output)) × (count < 2 ^ 31) ⌝ }
     ensures { λ r. ⌜ Stamped (now (output .entry)) k (dotOf d) count (now (output .exit)) r ⌝ }
 {
     let old = output[k];

@@ -2,13 +2,28 @@
 use mathlib.Core.Path.{_≡_, refl, sym, ap, _∙_}
 use mathlib.Core.Bool.{Bool, true, false, not, cond, _||_}
 use mathlib.Core.List.{List}
-use Prim.Native.Nat.{ℕ, zero, suc, _+_, _≤_, _<_, min}
+use Prim.Native.Nat.{ℕ, zero, suc, _+_, _*_, _≤_, _<_, min}
+use native.Mathlib.Nat.{add-mul, mul-comm}
 use native.Mathlib.Omega.{arith}
 use lib.Dec.{T, ltb, nltb→le, ltb→lt}
 use lib.ListN.{length, getD, List·getD-eq-default}
 use lib.Seq.{ext-getD}
+use lib.Arith.{digits-lt}
 use Rattle.rules.specs.Forms.{turns, tabulate, any, howMany}
 use Rattle.rules.specs.Distances.{least, whole, nearestTo, distances}
+
+-- one of two that are at most n
+pub either : (t : Bool) (a b n : ℕ) → a ≤ n → b ≤ n → cond t a b ≤ n
+either true a b n h k = h
+either false a b n h k = k
+
+-- a pixel's place is among those of its plane
+pub place-in : {w h x y : ℕ} → y < h → x < w → y * w + x < w * h
+place-in {w} {h} above left = omega (arith, digits-lt above left, mul-comm h w)
+
+-- and in the second of two planes
+pub second-in : (row rows pitch col : ℕ) → row < rows → col < pitch → (rows + row) * pitch + col < 2 * (pitch * rows)
+second-in row rows pitch col below left = omega (arith, place-in below left, mul-comm rows pitch, add-mul rows row pitch)
 
 -- ---- tabulate
 
@@ -122,9 +137,5 @@ pub distances-small : (old : List ℕ) (width : ℕ) → ((k : ℕ) → getD old
 unfolding distances nearestTo
 distances-small old width h k =
     tabulate-both {B = ℕ} (λ a b. a ≤ 255) (length old) _ (λ j. 0) 0 0 k
-    (λ below. pick (ltb k (whole old width)) _ _ (least-small _ (whole old width)) (h k))
+    (λ below. either (ltb k (whole old width)) _ _ 255 (least-small _ (whole old width)) (h k))
     (omega arith)
-  where
-    pick : (t : Bool) (a b : ℕ) → a ≤ 255 → b ≤ 255 → cond t a b ≤ 255
-    pick true a b l m = l
-    pick false a b l m = m

@@ -139,17 +139,16 @@ never false a p true b q h k = empty (b * p) (a * q) (none b p (h .1)) (none a q
 never true a p false b q h k = k
 never true a p true b q h k = clash (b * p) (a * q) h (ltb→lt (a * q) (b * p) k)
 
+-- two numbers with nothing in their sum
+pub neither : (x y : ℕ) → x + y ≤ 0 → (x ≡ 0) × (y ≡ 0)
+neither x y h = (omega arith, omega arith)
+
 other : (s : Bool) (a p : ℕ) (t : Bool) (b q : ℕ) → 0 < p → 0 < q → T (not (below t (b * p) s (a * q))) → Below s a p t b q
 other false a p false b q P Q h = nltb→le (b * p) (a * q) h
 other false a p true b q P Q h =
     let z : b * p + a * q ≤ 0 = nltb→le 0 (b * p + a * q) h in
-    (zero-of a q Q (second (b * p) (a * q) z), zero-of b p P (first (b * p) (a * q) z))
-  where
-    first : (x y : ℕ) → x + y ≤ 0 → x ≡ 0
-    first x y h = omega arith
-
-    second : (x y : ℕ) → x + y ≤ 0 → y ≡ 0
-    second x y h = omega arith
+    let n = neither (b * p) (a * q) z in
+    (zero-of a q Q (n .1), zero-of b p P (n .0))
 other true a p false b q P Q h = tt
 other true a p true b q P Q h = nltb→le (a * q) (b * p) h
 

@@ -2,12 +2,13 @@
 use mathlib.Core.Path.{_≡_, refl, ap, _∙_}
 use mathlib.Core.Bool.{Bool, true, false, not, cond}
 use Prim.Native.Nat.{ℕ, zero, suc, _+_, _-_, _*_, _^_, _≤_, _<_, min}
-use native.Mathlib.Nat.{le-trans, mul-comm, mul-assoc}
+use lib.Pow.{pow-pos}
+use native.Mathlib.Nat.{le-trans, mul-pos}
 use native.Mathlib.Omega.{arith}
 use borrow.Author.Tests.{le-ltb}
 use lib.IntN.{ℤ, pos, negℤ, natAbs}
 use lib.Dec.{T, ltb, le→leb, lit<, lit≤}
-use lib.Ieee.{Float, nan, inf, fin, Format, binary32, up, down, round, units, odd, sum, neg, sub, div, eq, ofBits, inFloat, prec, low, emax, unlike}
+use lib.Ieee.{Float, nan, inf, fin, Format, binary32, up, down, round, units, odd, sum, neg, sub, div, eq, lt, ofBits, inFloat, prec, low, emax, unlike}
 use lib.Ieee.Exact.{HasValue}
 use lib.Ieee.Fits.{down-pos}
 use lib.Ieee.Scale.{round-same}
@@ -15,7 +16,11 @@ use lib.Ieee.Order.{round-mono}
 use lib.Ieee.Back.{unsigned-back}
 use Rattle.rules.specs.Literals.{0·0, 0·2, 4096·0}
 use Rattle.rules.specs.Float.{_⊖_, _⊘_, _≼_, float, signed, cut, abs, _⊗_, rounded, negative, stored, storedOf}
-use Rattle.rules.specs.Reading.{fraction}
+use Rattle.rules.specs.Forms.{Layer}
+use Rattle.rules.specs.Model.{plain, set}
+use Rattle.rules.specs.Reading.{fraction, texel, modelAt}
+use Rattle.laws.proofs.Signed.{neg-size}
+use Rattle.laws.proofs.Value.{by-value}
 use Rattle.laws.proofs.Whole.{minus?, int-value, add-at}
 
 -- ---- a whole number as a float
@@ -25,7 +30,8 @@ pub cut-float : (n : ℕ) → n ≤ 4096 → cut (float n) ≡ n
 unfolding inFloat
 cut-float n h = unsigned-back binary32 64 n (le→leb n (2 ^ 24) (omega arith)) (omega arith) .1
 
-value-neg : (x : Float) (s : Bool) (a c : ℕ) → HasValue x s a c → HasValue (neg x) (not s) a c
+-- with the other sign
+pub value-neg : (x : Float) (s : Bool) (a c : ℕ) → HasValue x s a c → HasValue (neg x) (not s) a c
 unfolding neg
 value-neg nan s a c v = v
 value-neg (inf t) s a c v = v
@@ -46,6 +52,11 @@ zero-is = refl
 pub fraction-float : (n : ℕ) → n ≤ 4096 → eq (fraction (float n)) 0·0 ≡ true
 fraction-float n h = rw (cut-float n h, none-left n h) zero-is
 
+-- at a pixel the model is its texel
+pub model-whole : (l : Layer) (plane x y : ℕ) → x ≤ 4096 → y ≤ 4096 → modelAt l plane (float x) (float y) ≡ texel l plane x y
+unfolding modelAt
+model-whole l plane x y a b = rw (fraction-float x a, fraction-float y b, cut-float x a, cut-float y b)
+
 -- ---- a stored gain against 0.2
 
 abs-odd : (d : ℕ) (s : Bool) (q k l : ℕ) → abs (odd d s q k l) ≡ odd d false q k l
@@ -65,24 +76,27 @@ abs-round : (f : Format) (s : Bool) (a c : ℕ) → abs (round f s a c) ≡ roun
 unfolding round
 abs-round f s a c = abs-units f s _ _
 
--- a whole number by 4096
-div-at : (x : Float) (s : Bool) (a : ℕ) → HasValue x s a 1 → x ⊘ 4096·0 ≡ round binary32 s a 4096
-unfolding div ofBits
-div-at nan s a v = absurd v
-div-at (inf t) s a v = absurd v
-div-at (fin t m e) s a v =
-    ap (λ (z : Bool). round binary32 z (m * up e * 1) (1 * 2 ^ 12 * down e)) (sign t ∙ v .0)
-    ∙ round-same binary32 s (m * up e * 1) (1 * 2 ^ 12 * down e) a 4096 (above (down e) (down-pos e)) (lit< tt) (cross (m * up e * 1) a (down e) (v .1))
+-- a whole number by 2 ^ k
+pub div-at : (k : ℕ) (x : Float) (s : Bool) (a : ℕ) → HasValue x s a 1 → x ⊘ fin false 1 (pos k) ≡ round binary32 s a (2 ^ k)
+unfolding div
+div-at k x s a v = by-value (λ x. x ⊘ fin false 1 (pos k) ≡ round binary32 s a (2 ^ k)) x s a 1 v (λ m e q.
+    ap (λ (z : Bool). round binary32 z (m * up e * 1) (1 * 2 ^ k * down e)) (sign s)
+    ∙ round-same binary32 s (m * up e * 1) (1 * 2 ^ k * down e) a (2 ^ k) (above (2 ^ k) (down e) (mul-pos (pow-pos k) (down-pos e))) (pow-pos k)
+    (cross (m * up e * 1) a (2 ^ k) (down e) q))
   where
     sign : (t : Bool) → unlike t false ≡ t
     sign true = refl
     sign false = refl
 
-    above : (d : ℕ) → 0 < d → 0 < 1 * 2 ^ 12 * d
-    above d h = omega arith
+    above : (p d : ℕ) → 0 < p * d → 0 < 1 * p * d
+    above p d h = omega arith
 
-    cross : (x a d : ℕ) → x ≡ a * d → x * 4096 ≡ a * (1 * 2 ^ 12 * d)
-    cross x a d e = rw e (mul-assoc a d 4096 ∙ ap (λ (z : ℕ). a * z) (mul-comm d 4096))
+    cross : (x a p d : ℕ) → x ≡ a * d → x * p ≡ a * (1 * p * d)
+    cross x a p d e = rw e (omega arith)
+
+scale-is : 4096·0 ≡ fin false 1 (pos 12)
+unfolding ofBits
+scale-is = refl
 
 fifth-is : 0·2 ≡ round binary32 false 13421773 (2 ^ 26)
 unfolding ofBits round
@@ -91,26 +105,27 @@ fifth-is = refl
 -- a gain whose size, in 4096ths, is at least that of 0.2
 pub fifth : (g : ℤ) → natAbs g ≤ 2 ^ 15 → 13421773 * 4096 ≤ natAbs g * 2 ^ 26 → T (0·2 ≼ abs (signed g ⊘ 4096·0))
 fifth g small large =
-    rw (div-at (signed g) (minus? g) (natAbs g) (int-value binary32 g (le-trans small (lit≤ tt))), abs-round binary32 (minus? g) (natAbs g) 4096, fifth-is)
+    rw (scale-is, div-at 12 (signed g) (minus? g) (natAbs g) (int-value binary32 g (le-trans small (lit≤ tt))), abs-round binary32 (minus? g) (natAbs g) 4096, fifth-is)
     (round-mono binary32 13421773 (2 ^ 26) (natAbs g) 4096 (lit< tt) (lit< tt) large)
 
--- a stored number is small
-pub stored-small : (v s : Float) → natAbs (stored v s) ≤ 2 ^ 15
+-- a stored number is "held to ±32767"
+pub stored-small : (v s : Float) → natAbs (stored v s) ≤ 32767
 unfolding stored storedOf rounded
 stored-small v s = go (negative (v ⊗ s)) (rounded 32767 (v ⊗ s)) (rounded-small (v ⊗ s))
   where
-    rounded-small : (y : Float) → rounded 32767 y ≤ 2 ^ 15
+    rounded-small : (y : Float) → rounded 32767 y ≤ 32767
     rounded-small nan = lit≤ tt
     rounded-small (inf t) = lit≤ tt
     rounded-small (fin t m e) = held _
       where
-        held : (a : ℕ) → min a 32767 ≤ 2 ^ 15
+        held : (a : ℕ) → min a 32767 ≤ 32767
         held a = omega arith
 
-    minus : (n : ℕ) → n ≤ 2 ^ 15 → natAbs (negℤ (pos n)) ≤ 2 ^ 15
-    minus zero h = h
-    minus (suc n) h = h
-
-    go : (b : Bool) (n : ℕ) → n ≤ 2 ^ 15 → natAbs (cond b (negℤ (pos n)) (pos n)) ≤ 2 ^ 15
-    go true n h = minus n h
+    go : (b : Bool) (n : ℕ) → n ≤ 32767 → natAbs (cond b (negℤ (pos n)) (pos n)) ≤ 32767
+    go true n h = rw (neg-size n) h
     go false n h = h
+
+-- ---- the plain model is not set
+pub set-plain : set plain ≡ false
+unfolding set abs lt sub ofBits
+set-plain = refl

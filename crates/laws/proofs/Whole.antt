@@ -16,6 +16,8 @@ use lib.Ieee.Order.{transfer}
 use lib.Ieee.Back.{round-whole}
 use Rattle.rules.specs.Literals.{0·0, 8·0}
 use Rattle.rules.specs.Float.{_⊖_, _⊗_, signed}
+use Rattle.laws.proofs.Signed.{neg-size}
+use Rattle.laws.proofs.Value.{by-value}
 use Rattle.laws.proofs.Order.{Below, opened, shut, none, zero-of}
 
 -- ---- the order by any fractions that the two floats equal
@@ -27,25 +29,16 @@ move true x de true y dd a c b c' C C' p q h = transfer y x dd de b a c' c C' C 
 
 pub le-by-values : (x y : Float) (s : Bool) (a c : ℕ) (t : Bool) (b c' : ℕ) → 0 < c → 0 < c' → HasValue x s a c → HasValue y t b c' → Below s a c t b c' → T (le x y)
 unfolding le
-le-by-values nan y s a c t b c' C C' p q h = absurd p
-le-by-values (inf u) y s a c t b c' C C' p q h = absurd p
-le-by-values (fin u m e) nan s a c t b c' C C' p q h = absurd q
-le-by-values (fin u m e) (inf v) s a c t b c' C C' p q h = absurd q
-le-by-values (fin u m e) (fin v n d) s a c t b c' C C' p q h =
-    shut u (m * up e) (down e) v (n * up d) (down d)
-    (move u (m * up e) (down e) v (n * up d) (down d) a c b c' C C' (p .1) (q .1)
-    (subst (λ (z : Bool). Below z a c v b c') (sym (p .0)) (subst (λ (z : Bool). Below s a c z b c') (sym (q .0)) h)))
+le-by-values x y s a c t b c' C C' p q h =
+    by-value (λ x. T (le x y)) x s a c p (λ m e i. by-value (λ y. T (le (fin s m e) y)) y t b c' q (λ n d j.
+    shut s (m * up e) (down e) t (n * up d) (down d) (move s (m * up e) (down e) t (n * up d) (down d) a c b c' C C' i j h)))
 
 pub values-by-le : (x y : Float) (s : Bool) (a c : ℕ) (t : Bool) (b c' : ℕ) → HasValue x s a c → HasValue y t b c' → 0 < c → 0 < c' → T (le x y) → Below s a c t b c'
 unfolding le
-values-by-le nan y s a c t b c' p q C C' h = absurd p
-values-by-le (inf u) y s a c t b c' p q C C' h = absurd p
-values-by-le (fin u m e) nan s a c t b c' p q C C' h = absurd q
-values-by-le (fin u m e) (inf v) s a c t b c' p q C C' h = absurd q
-values-by-le (fin u m e) (fin v n d) s a c t b c' p q C C' h =
-    subst (λ (z : Bool). Below z a c t b c') (p .0) (subst (λ (z : Bool). Below u a c z b c') (q .0)
-    (move u a c v b c' (m * up e) (down e) (n * up d) (down d) (down-pos e) (down-pos d) (sym (p .1)) (sym (q .1))
-    (opened u (m * up e) (down e) v (n * up d) (down d) (down-pos e) (down-pos d) h)))
+values-by-le x y s a c t b c' p q C C' =
+    by-value (λ x. T (le x y) → Below s a c t b c') x s a c p (λ m e i. by-value (λ y. T (le (fin s m e) y) → Below s a c t b c') y t b c' q (λ n d j h.
+    move s a c t b c' (m * up e) (down e) (n * up d) (down d) (down-pos e) (down-pos d) (sym i) (sym j)
+    (opened s (m * up e) (down e) t (n * up d) (down d) (down-pos e) (down-pos d) h)))
 
 -- ---- whole numbers
 abbrev pub minus? : ℤ → Bool
@@ -113,13 +106,14 @@ cut-le x n N h = go x (ofInt binary32 (pos n)) (int-value binary32 (pos n) N) h
         let l : m * up e * 1 ≤ n * down e = values-by-le (fin false m e) y false (m * up e) (down e) false n 1 (refl, refl) v (down-pos e) (zero-lt-suc 0) h in
         capped (m * up e / down e) (2 ^ 64 - 1) (div-le-of-le-mul (down e) (le-trans (le-of-eq (sym (mul-one (m * up e)))) (le-trans l (le-of-eq (mul-comm n (down e))))))
 
--- ---- a sum
-same-test : (x y : Bool) → (T x → T y) → (T y → T x) → x ≡ y
+-- two tests, each true where the other is
+pub same-test : (x y : Bool) → (T x → T y) → (T y → T x) → x ≡ y
 same-test true true f g = refl
 same-test true false f g = absurd (f tt)
 same-test false true f g = absurd (g tt)
 same-test false false f g = refl
 
+-- ---- a sum
 ltb-scale : (a b C : ℕ) → 0 < C → ltb (a * C) (b * C) ≡ ltb a b
 ltb-scale a b C h = same-test (ltb (a * C) (b * C)) (ltb a b)
     (λ t. lt→ltb a b (lt-of-mul-lt-mul-right C (ltb→lt (a * C) (b * C) t)))
@@ -138,19 +132,14 @@ sum-scale f s a t b C h =
 
 pub add-at : (f : Format) (x y : Float) (s : Bool) (a : ℕ) (t : Bool) (b : ℕ) → HasValue x s a 1 → HasValue y t b 1 → add f x y ≡ sum f s a t b 1
 unfolding add
-add-at f nan y s a t b p q = absurd p
-add-at f (inf u) y s a t b p q = absurd p
-add-at f (fin u m e) nan s a t b p q = absurd q
-add-at f (fin u m e) (inf v) s a t b p q = absurd q
-add-at f (fin u m e) (fin v n d) s a t b p q =
+add-at f x y s a t b p q =
+    by-value (λ x. add f x y ≡ sum f s a t b 1) x s a 1 p (λ m e i. by-value (λ y. add f (fin s m e) y ≡ sum f s a t b 1) y t b 1 q (λ n d j.
     let C = down e * down d in
-    let x : m * up e * down d ≡ a * C = ap (λ (z : ℕ). z * down d) (sym (mul-one (m * up e)) ∙ p .1) ∙ mul-assoc a (down e) (down d) in
-    let y : n * up d * down e ≡ b * C = ap (λ (z : ℕ). z * down e) (sym (mul-one (n * up d)) ∙ q .1) ∙ mul-assoc b (down d) (down e) ∙ ap (λ (z : ℕ). b * z) (mul-comm (down d) (down e)) in
-    ap (λ (z : Bool). sum f z (m * up e * down d) v (n * up d * down e) C) (p .0)
-    ∙ ap (λ (z : Bool). sum f s (m * up e * down d) z (n * up d * down e) C) (q .0)
-    ∙ ap (λ (z : ℕ). sum f s z t (n * up d * down e) C) x
+    let x : m * up e * down d ≡ a * C = ap (λ (z : ℕ). z * down d) (sym (mul-one (m * up e)) ∙ i) ∙ mul-assoc a (down e) (down d) in
+    let y : n * up d * down e ≡ b * C = ap (λ (z : ℕ). z * down e) (sym (mul-one (n * up d)) ∙ j) ∙ mul-assoc b (down d) (down e) ∙ ap (λ (z : ℕ). b * z) (mul-comm (down d) (down e)) in
+    ap (λ (z : ℕ). sum f s z t (n * up d * down e) C) x
     ∙ ap (λ (z : ℕ). sum f s (a * C) t z C) y
-    ∙ sum-scale f s a t b C (mul-pos (down-pos e) (down-pos d))
+    ∙ sum-scale f s a t b C (mul-pos (down-pos e) (down-pos d))))
 
 pub sum-int : (f : Format) (x y : ℤ) → sum f (minus? x) (natAbs x) (minus? y) (natAbs y) 1 ≡ ofInt f (x +ℤ y)
 unfolding sum ofInt
@@ -192,18 +181,13 @@ add-int f x y X Y = add-at f (ofInt f x) (ofInt f y) (minus? x) (natAbs x) (minu
 -- ---- a product
 mul-at : (f : Format) (x y : Float) (s : Bool) (a : ℕ) (t : Bool) (b : ℕ) → HasValue x s a 1 → HasValue y t b 1 → mul f x y ≡ round f (unlike s t) (a * b) 1
 unfolding mul
-mul-at f nan y s a t b p q = absurd p
-mul-at f (inf u) y s a t b p q = absurd p
-mul-at f (fin u m e) nan s a t b p q = absurd q
-mul-at f (fin u m e) (inf v) s a t b p q = absurd q
-mul-at f (fin u m e) (fin v n d) s a t b p q =
-    ap (λ (z : Bool). round f (unlike z v) (m * up e * (n * up d)) (down e * down d)) (p .0)
-    ∙ ap (λ (z : Bool). round f (unlike s z) (m * up e * (n * up d)) (down e * down d)) (q .0)
-    ∙ round-same f (unlike s t) (m * up e * (n * up d)) (down e * down d) (a * b) 1 (mul-pos (down-pos e) (down-pos d)) (zero-lt-suc 0)
+mul-at f x y s a t b p q =
+    by-value (λ x. mul f x y ≡ round f (unlike s t) (a * b) 1) x s a 1 p (λ m e i. by-value (λ y. mul f (fin s m e) y ≡ round f (unlike s t) (a * b) 1) y t b 1 q (λ n d j.
+    round-same f (unlike s t) (m * up e * (n * up d)) (down e * down d) (a * b) 1 (mul-pos (down-pos e) (down-pos d)) (zero-lt-suc 0)
     (mul-one (m * up e * (n * up d))
-    ∙ ap (λ (z : ℕ). z * (n * up d)) (sym (mul-one (m * up e)) ∙ p .1)
-    ∙ ap (λ (z : ℕ). a * down e * z) (sym (mul-one (n * up d)) ∙ q .1)
-    ∙ mul-mul-mul-comm a (down e) b (down d))
+    ∙ ap (λ (z : ℕ). z * (n * up d)) (sym (mul-one (m * up e)) ∙ i)
+    ∙ ap (λ (z : ℕ). a * down e * z) (sym (mul-one (n * up d)) ∙ j)
+    ∙ mul-mul-mul-comm a (down e) b (down d))))
 
 -- a whole number by one above 0
 pub mul-int : (f : Format) (x : ℤ) (b : ℕ) → 0 < b → natAbs x ≤ 2 ^ prec f → b ≤ 2 ^ prec f → mul f (ofInt f x) (ofInt f (pos b)) ≡ ofInt f (x *ℤ pos b)
@@ -224,11 +208,7 @@ gapZ d = d *ℤ pos 8 -ℤ pos 8
 
 times : (d : ℤ) → natAbs d ≤ 2 ^ 15 → natAbs (d *ℤ pos 8) ≤ 2 ^ 18
 times (pos a) h = omega arith
-times (negsuc a) h = by (suc a * 8) (omega arith)
-  where
-    by : (k : ℕ) → k ≤ 2 ^ 18 → natAbs (negℤ (pos k)) ≤ 2 ^ 18
-    by zero h = h
-    by (suc k) h = h
+times (negsuc a) h = le-trans (le-of-eq (neg-size (suc a * 8))) (omega arith)
 
 eight : 8·0 ≡ ofInt binary32 (pos 8)
 unfolding ofInt ofBits

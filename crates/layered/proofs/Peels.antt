@@ -1,6 +1,6 @@
 -- Which pixels both works write, and the scene at a pixel, filled. Assumes nothing.
 use mathlib.Core.Path.{_≡_, refl, sym, _∙_}
-use mathlib.Core.Bool.{Bool, true, false, not, _&&_}
+use mathlib.Core.Bool.{true, false, not}
 use Prim.Native.Nat.{ℕ, _≤_}
 use lib.ListN.{getD}
 use lib.Ieee.{Float}
@@ -8,7 +8,7 @@ use Rattle.plane.specs.declared.Dot.the-variants.{Keep, Put}
 use Rattle.plane.specs.Done.{dot}
 use Rattle.rules.specs.declared.Model.{Model}
 use Rattle.rules.specs.declared.Scene.the-variants.{Lifted, Raw}
-use Rattle.rules.specs.Forms.{Layer, Plane, Rule}
+use Rattle.rules.specs.Forms.{Layer, Plane}
 use Rattle.rules.specs.Literals.{0·0}
 use Rattle.rules.specs.Float.{_≼_, float}
 use Rattle.rules.specs.Model.{isPlain}

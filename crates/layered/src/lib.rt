@@ -15,12 +15,31 @@ ghost use Rattle.plane.specs.Done.{dot as dotOf};
 ghost use Rattle.lent.specs.Lent.{lay, Inside};
 ghost use Rattle.sample.specs.Points.{PlaneFits};
 ghost use Rattle.whole.specs.Rings.{Ready};
-ghost use Rattle.layered.specs.Works.{ruleOf};
+ghost use Rattle.layered.specs.Works.{ruleOf, isUnpeel, timeOf};
 
 // What is done with a plane: the layer is taken off, or laid on at a time between two frames.
 pub enum Work {
     Peel,
     Unpeel(f32),
+}
+
+// Whether the layer is laid on, and the time.
+pub fn unpeels(work: Work) -> bool
+    ensures { λ r. ⌜ r ≡ isUnpeel work ⌝ }
+{
+    match work {
+        Work::Peel => false,
+        Work::Unpeel(_) => true,
+    }
+}
+
+pub fn time_of(work: Work) -> f32
+    ensures { λ r. ⌜ r ≡ timeOf work ⌝ }
+{
+    match work {
+        Work::Peel => 0.0,
+        Work::Unpeel(time) => time,
+    }
 }
 
 // The byte of a pixel without the layer.

@@ -1,12 +1,12 @@
-// A pass of peel or unpeel over a plane: row by row, and in a row cell by cell.
+// A pass of peel or unpeel over a plane: row by row, and in a row run by run of near cells.
 use layered::Work;
 use lent::Plan;
 ghost use mathlib.Core.Path.{_≡_};
 ghost use Prim.Native.Nat.{_+_, _*_, _/_, _≤_, _<_};
 ghost use Rattle.plane.specs.Done.{RowDone, RowsDone};
-ghost use Rattle.lent.specs.Lent.{lay};
+ghost use Rattle.lent.specs.Lent.{lent, lay, Planned, chromaLong};
 ghost use Rattle.layered.specs.Works.{ruleOf};
-ghost use Rattle.layered_rows.specs.Rows.{Given, RunAsks, Near, OneCell, RowAsks, RowsAsk, RowOn};
+ghost use Rattle.layered_rows.specs.Rows.{Given, RunAsks, Near, CellsTo, RowAsks, RowsAsk, RowOn};
 
 // The pixels of a row from a column to another, all in near cells.
 fn run(
@@ -84,33 +84,57 @@ fn luma_run(
     requires { ⌜ Given p (now l) (now lb) (now a) (now ab) (now b) (now bb) (now first) fpitch (now second) spitch × RunAsks p (now output) opitch y from to count × Near (lay (p .shape) (now l) (now lb) (now a) (now ab) (now b) (now bb)) (p .shape .plane) y from to × (p .shape .plane ≡ 0) ⌝ }
     ensures { λ r. ⌜ RowOn (ruleOf (Work.Unpeel time) (lay (p .shape) (now (l .entry)) (now (lb .entry)) (now (a .entry)) (now (ab .entry)) (now (b .entry)) (now (bb .entry))) (p .shape .plane) (record { bytes = now (first .entry); pitch = fpitch }) (record { bytes = now (second .entry); pitch = spitch })) opitch y from to count (now (output .entry)) (now (output .exit)) r ⌝ }
 {
-    let mut n = count;
+    let mut n: u32 = 0;
     let mut x = from;
     while x < to {
         let k = plane::place(y, opitch, x);
         let old = output[k];
-        let d = laid::laid(
-            p.shape.packed,
-            l,
-            lb,
-            p.shape.luma,
-            p.shape.height,
-            first,
-            fpitch,
-            second,
-            spitch,
-            x,
-            y,
-            time,
-            old,
-        );
+        let m = texel::luma(p, l, lb, a, ab, b, bb, x, y);
+        let d = laid::laid(m, first, fpitch, second, spitch, x, y, time, old);
         n = laid::mark(output, k, d, n);
         x += 1;
     }
-    n
+    count + n as usize
 }
 
-// Either work's: each way is called once, so that both are part of the loop over cells.
+// And of chroma at ratio 2.
+fn chroma_run(
+    output: &mut [u8],
+    opitch: usize,
+    count: usize,
+    time: f32,
+    p: Plan,
+    l: &[i16],
+    lb: &[u8],
+    a: &[i16],
+    ab: &[u8],
+    b: &[i16],
+    bb: &[u8],
+    first: &[u8],
+    fpitch: usize,
+    second: &[u8],
+    spitch: usize,
+    y: usize,
+    from: usize,
+    to: usize,
+) -> usize
+    requires { ⌜ Given p (now l) (now lb) (now a) (now ab) (now b) (now bb) (now first) fpitch (now second) spitch × RunAsks p (now output) opitch y from to count × Near (lay (p .shape) (now l) (now lb) (now a) (now ab) (now b) (now bb)) (p .shape .plane) y from to × (p .span ≡ 2) ⌝ }
+    ensures { λ r. ⌜ RowOn (ruleOf (Work.Unpeel time) (lay (p .shape) (now (l .entry)) (now (lb .entry)) (now (a .entry)) (now (ab .entry)) (now (b .entry)) (now (bb .entry))) (p .shape .plane) (record { bytes = now (first .entry); pitch = fpitch }) (record { bytes = now (second .entry); pitch = spitch })) opitch y from to count (now (output .entry)) (now (output .exit)) r ⌝ }
+{
+    let mut n: u32 = 0;
+    let mut x = from;
+    while x < to {
+        let k = plane::place(y, opitch, x);
+        let old = output[k];
+        let m = texel::chroma(p, l, lb, a, ab, b, bb, x, y);
+        let d = laid::laid(m, first, fpitch, second, spitch, x, y, time, old);
+        n = laid::mark(output, k, d, n);
+        x += 1;
+    }
+    count + n as usize
+}
+
+// Either work's: each way is called once, so that all are part of the loop over runs.
 fn near_run(
     output: &mut [u8],
     opitch: usize,
@@ -134,9 +158,32 @@ fn near_run(
     requires { ⌜ Given p (now l) (now lb) (now a) (now ab) (now b) (now bb) (now first) fpitch (now second) spitch × RunAsks p (now output) opitch y from to count × Near (lay (p .shape) (now l) (now lb) (now a) (now ab) (now b) (now bb)) (p .shape .plane) y from to ⌝ }
     ensures { λ r. ⌜ RowOn (ruleOf work (lay (p .shape) (now (l .entry)) (now (lb .entry)) (now (a .entry)) (now (ab .entry)) (now (b .entry)) (now (bb .entry))) (p .shape .plane) (record { bytes = now (first .entry); pitch = fpitch }) (record { bytes = now (second .entry); pitch = spitch })) opitch y from to count (now (output .entry)) (now (output .exit)) r ⌝ }
 {
-    if p.shape.plane == 0 {
-        if let Work::Unpeel(time) = work {
+    if layered::unpeels(work) {
+        let time = layered::time_of(work);
+        if p.shape.plane == 0 {
             return luma_run(
+                output,
+                opitch,
+                count,
+                time,
+                p,
+                l,
+                lb,
+                a,
+                ab,
+                b,
+                bb,
+                first,
+                fpitch,
+                second,
+                spitch,
+                y,
+                from,
+                to,
+            );
+        }
+        if p.span == 2 {
+            return chroma_run(
                 output,
                 opitch,
                 count,
@@ -180,57 +227,22 @@ fn near_run(
     )
 }
 
-// The pixels of a row in one cell. Its distance is read once.
-fn cell_run(
-    output: &mut [u8],
-    opitch: usize,
-    count: usize,
-    work: Work,
-    p: Plan,
-    l: &[i16],
-    lb: &[u8],
-    a: &[i16],
-    ab: &[u8],
-    b: &[i16],
-    bb: &[u8],
-    first: &[u8],
-    fpitch: usize,
-    second: &[u8],
-    spitch: usize,
-    y: usize,
-    from: usize,
-    to: usize,
-) -> usize
-    requires { ⌜ Given p (now l) (now lb) (now a) (now ab) (now b) (now bb) (now first) fpitch (now second) spitch × RunAsks p (now output) opitch y from to count × OneCell (p .side) from to ⌝ }
-    ensures { λ r. ⌜ RowOn (ruleOf work (lay (p .shape) (now (l .entry)) (now (lb .entry)) (now (a .entry)) (now (ab .entry)) (now (b .entry)) (now (bb .entry))) (p .shape .plane) (record { bytes = now (first .entry); pitch = fpitch }) (record { bytes = now (second .entry); pitch = spitch })) opitch y from to count (now (output .entry)) (now (output .exit)) r ⌝ }
+// The end of the cells, from a column on, that are near, or that are far. A cell's distance is read once.
+fn cells_end(p: Plan, b: &[i16], bb: &[u8], y: usize, from: usize, near: bool) -> usize
+    requires { ⌜ Planned p × chromaLong p (lent (p .shape .packed) (now b) (now bb)) × (y < p .down) × (from ≤ p .across) ⌝ }
+    ensures { λ r. ⌜ CellsTo p (lent (p .shape .packed) (now (b .entry)) (now (bb .entry))) y from near r ⌝ }
 {
-    if cell::near(cell::distance(p, b, bb, from, y)) {
-        near_run(
-            output,
-            opitch,
-            count,
-            work,
-            p,
-            l,
-            lb,
-            a,
-            ab,
-            b,
-            bb,
-            first,
-            fpitch,
-            second,
-            spitch,
-            y,
-            from,
-            to,
-        )
-    } else {
-        count
+    let mut x = from;
+    while x < p.across {
+        if cell::near(cell::distance(p, b, bb, x, y)) != near {
+            return x;
+        }
+        x = cell::cell_end(x, p.side, p.across);
     }
+    x
 }
 
-// One row.
+// One row: far cells are passed over, near ones that touch are one run.
 fn row(
     output: &mut [u8],
     opitch: usize,
@@ -255,8 +267,9 @@ fn row(
     let mut n = count;
     let mut x = 0;
     while x < p.across {
-        let end = cell::cell_end(x, p.side, p.across);
-        n = cell_run(
+        let from = cells_end(p, b, bb, y, x, false);
+        let to = cells_end(p, b, bb, y, from, true);
+        n = near_run(
             output,
             opitch,
             n,
@@ -273,10 +286,10 @@ fn row(
             second,
             spitch,
             y,
-            x,
-            end,
+            from,
+            to,
         );
-        x = end;
+        x = to;
     }
     n
 }

@@ -1,12 +1,26 @@
 -- What follows from the numbers of a shape that are not refused. Assumes nothing.
-use mathlib.Core.Path.{_≡_, refl}
+use mathlib.Core.Path.{_≡_, refl, ap, _∙_}
 use mathlib.Core.Bool.{Bool, true, false, cond}
 use Prim.Native.Nat.{ℕ, zero, suc, _*_, _/_, _≤_}
-use native.Mathlib.Nat.{div-one, div-le-self, le-trans, zero-mul, mul-one, le-div-iff-mul-le}
+use native.Mathlib.Nat.{div-one, div-le-self, mul-one, le-div-iff-mul-le}
 use native.Mathlib.Omega.{arith}
+use borrow.Author.Tests.{eq-eqb}
 use lib.Dec.{eqb}
+use Rattle.laws.proofs.Accepted.{part-in}
+use Rattle.lent.specs.declared.Plan.{Plan}
 use Rattle.lent.specs.declared.Shape.{Shape}
-use Rattle.lent.specs.Lent.{planOf, IsSide, Formed, Planned}
+use Rattle.lent.specs.Lent.{planOf, ratioOf, IsSide, Formed, Planned}
+
+-- a plan's ratio is its shape's
+pub span-is : (p : Plan) → Planned p → p .span ≡ ratioOf (p .shape)
+span-is p h = ap (λ (q : Plan). q .span) (h .is)
+
+-- luma has one pixel for each, so a plane with more is not luma
+pub one-of : (p : Plan) → Planned p → p .shape .plane ≡ 0 → p .span ≡ 1
+one-of p h luma = span-is p h ∙ simp (eq-eqb (p .shape .plane) 0 luma)
+
+pub not-luma : (p : Plan) → Planned p → p .span ≡ 2 → p .shape .plane ≡ 0 → ⊥
+not-luma p h two luma = omega (arith, two, one-of p h luma)
 
 -- the plane's ratio: 1, or the layer's
 span-in : (b : Bool) (r : ℕ) → (1 ≤ r) × (r ≤ 4) → (1 ≤ cond b 1 r) × (cond b 1 r ≤ 4)
@@ -17,16 +31,9 @@ span-power : (b : Bool) (r : ℕ) → (r ≡ 3 → ⊥) → cond b 1 r ≡ 3 →
 span-power true r h e = omega arith
 span-power false r h e = h e
 
-some : (n r : ℕ) → 1 ≤ n → n / r * r ≡ n → 1 ≤ n / r
-some n r h e = go (n / r) e
-  where
-    go : (q : ℕ) → q * r ≡ n → 1 ≤ q
-    go zero e = let z = zero-mul r in absurd (omega arith)
-    go (suc q) e = omega arith
-
 size-in : (b : Bool) (n r : ℕ) → (1 ≤ n) × (n ≤ 4096) → n / r * r ≡ n → (1 ≤ n / cond b 1 r) × (n / cond b 1 r ≤ 4096)
 size-in true n r h e = rw (div-one n) h
-size-in false n r h e = (some n r (h .0) e, le-trans (div-le-self n r) (h .1))
+size-in false n r h e = part-in n r h e
 
 whole-in : (b : Bool) (n r : ℕ) → n / r * r ≡ n → n / cond b 1 r * cond b 1 r ≡ n
 whole-in true n r e = rw (div-one n, mul-one n)

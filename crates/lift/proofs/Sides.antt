@@ -1,5 +1,5 @@
 -- The size of a float, tested from both sides; one of two values by two such tests. Assumes nothing.
-use mathlib.Core.Path.{_≡_, refl, sym, ap, _∙_}
+use mathlib.Core.Path.{_≡_, refl, ap}
 use mathlib.Core.Bool.{Bool, true, false, cond, _&&_, _||_}
 use Prim.Native.Nat.{ℕ, _+_, _*_, _<_}
 use native.Mathlib.Nat.{mul-pos}
@@ -11,9 +11,19 @@ use lib.Ieee.Fits.{up-pos, down-pos}
 use Rattle.rules.specs.Literals.{0·2, 2·5}
 use Rattle.rules.specs.Float.{_≺_, _≼_, abs}
 
-and-true : (b : Bool) → b ≡ (b && true)
-and-true true = refl
-and-true false = refl
+-- a test that NaN and the largest fail, and that what is below 0 passes
+sides : (test : Float → Bool) → test nan ≡ false → test (inf true) ≡ true → test (inf false) ≡ false → ((m : ℕ) (e : ℤ) → test (fin true m e) ≡ true)
+    → (x : Float) → test (abs x) ≡ (test x && test (neg x))
+unfolding neg abs
+sides test n i j minus nan = rw n
+sides test n i j minus (inf true) = rw (i, j)
+sides test n i j minus (inf false) = rw j
+sides test n i j minus (fin true m e) = simp (minus m e)
+sides test n i j minus (fin false m e) = rw (minus m e) (and-true (test (fin false m e)))
+  where
+    and-true : (b : Bool) → b ≡ (b && true)
+    and-true true = refl
+    and-true false = refl
 
 -- n * 2 ^ d is above 0
 module _ (n : ℕ) (d : ℤ) (N : 0 < n) where
@@ -21,25 +31,13 @@ module _ (n : ℕ) (d : ℤ) (N : 0 < n) where
   unfolding lt
   minus-below m e = let h = mul-pos (mul-pos N (up-pos d)) (down-pos e) in lt-ltb 0 (m * up e * down d + n * up d * down e) (omega arith)
 
-  minus-at-most : (m : ℕ) (e : ℤ) → le (fin true m e) (fin false n d) ≡ true
-  unfolding le
-  minus-at-most m e = ap (λ (b : Bool). b || eq (fin true m e) (fin false n d)) (minus-below m e)
-
   below-sides : (x : Float) → lt (abs x) (fin false n d) ≡ (lt x (fin false n d) && lt (neg x) (fin false n d))
-  unfolding lt neg abs
-  below-sides nan = refl
-  below-sides (inf true) = refl
-  below-sides (inf false) = refl
-  below-sides (fin true m e) = ap (λ (b : Bool). b && lt (fin false m e) (fin false n d)) (sym (minus-below m e))
-  below-sides (fin false m e) = and-true _ ∙ ap (λ (b : Bool). lt (fin false m e) (fin false n d) && b) (sym (minus-below m e))
+  unfolding lt
+  below-sides = sides (λ x. lt x (fin false n d)) refl refl refl minus-below
 
   at-most-sides : (x : Float) → le (abs x) (fin false n d) ≡ (le x (fin false n d) && le (neg x) (fin false n d))
-  unfolding le lt eq neg abs
-  at-most-sides nan = refl
-  at-most-sides (inf true) = refl
-  at-most-sides (inf false) = refl
-  at-most-sides (fin true m e) = ap (λ (b : Bool). b && le (fin false m e) (fin false n d)) (sym (minus-at-most m e))
-  at-most-sides (fin false m e) = and-true _ ∙ ap (λ (b : Bool). le (fin false m e) (fin false n d) && b) (sym (minus-at-most m e))
+  unfolding le lt eq
+  at-most-sides = sides (λ x. le x (fin false n d)) refl refl refl (λ m e. ap (λ (b : Bool). b || eq (fin true m e) (fin false n d)) (minus-below m e))
 
 -- the two tests of unpeel
 pub weak-sides : (x : Float) → (abs x ≺ 0·2) ≡ ((x ≺ 0·2) && (neg x ≺ 0·2))

@@ -10,12 +10,12 @@ use lib.Dec.{eqb}
 use lib.ListN.{length, getD}
 use Rattle.rules.specs.Forms.{Plane, tabulate}
 use Rattle.rules.specs.Calls.{Settings}
-use Rattle.rules.specs.Domain.{areSizes, havePitches, haveLengths}
-use Rattle.rules.specs.Refusals.{firstFitting, maskRefusal}
+use Rattle.rules.specs.Refusals.{maskRefusal}
 use Rattle.rules.specs.Still.{sameAt, fullCorner as full, still}
 use Rattle.pass.specs.Pass.{PlaneIn}
 use Rattle.pass.specs.Table.{RowsStored}
-use Rattle.pass.proofs.Accepted.{passed, sizes-in, first-in}
+use Rattle.laws.proofs.Accepted.{row-right, sizes-in}
+use Rattle.pass.proofs.Accepted.{first-in}
 use Rattle.laws.proofs.Lists.{length-tabulate, getD-tabulate, is-table}
 use Rattle.pass.proofs.Tables.{table, table-length, table-at}
 use Rattle.same.specs.Same.{bitOf, sameBit}
@@ -69,19 +69,16 @@ module _ (first second : Plane) (width height : ℕ) (s : Settings) where
   pub runs : (filled : List ℕ) → maskRefusal (callOf first second width height s filled) ≡ 0
       → PlaneIn filled width (width, height) × PlaneIn (first .bytes) (first .pitch) (width, height)
       × PlaneIn (second .bytes) (second .pitch) (width, height) × (1 ≤ width) × (length filled ≡ width * height)
-  unfolding maskRefusal firstFitting
+  unfolding maskRefusal
   runs filled e =
       let size : ℕ × ℕ = (width, height) in
-      let a = passed 0 _ (areSizes size) e in
-      let b = passed 2 _ (havePitches (first ∷ second ∷ []) size) (a .1) in
-      let c = passed 3 _ (haveLengths (first ∷ second ∷ []) size) (b .1) in
-      let d = passed 3 _ (eqb (length filled) (width * height)) (c .1) in
-      let p = first-in first (second ∷ []) size (a .0) (b .0) (c .0) in
-      let q = first-in second [] size (a .0) (p .1) (p .2) in
-      let z = sizes-in size (a .0) in
-      let long = eqb-true (length filled) (width * height) (d .0) in
-      let rows = rows-are height width (z .2) in
-      (record { near = (z .1, z .3); apart = omega (arith, z .1); inside = omega arith }, p .0, q .0, z .0, long)
+      let ok = row-right _ refl e in
+      let p = first-in first (second ∷ []) size (ok 0 _ refl) (ok 1 _ refl) (ok 2 _ refl) in
+      let q = first-in second [] size (ok 0 _ refl) (p .1) (p .2) in
+      let z = sizes-in size (ok 0 _ refl) in
+      let long = eqb-true (length filled) (width * height) (ok 3 _ refl) in
+      let rows = rows-are height width (z .1 .0) in
+      (record { near = (z .0 .1, z .1 .1); apart = omega (arith, z .0 .1); inside = omega arith }, p .0, q .0, z .0 .0, long)
     where
       rows-are : (h w : ℕ) → 1 ≤ h → (h - 1) * w + w ≡ w * h
       rows-are h w some =

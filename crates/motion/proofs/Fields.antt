@@ -2,16 +2,16 @@
 -- Assumes nothing.
 use mathlib.Core.Path.{_≡_, refl, ap, _∙_}
 use Prim.Native.Nat.{ℕ, _+_, _*_, _^_, _≤_, _<_}
-use native.Mathlib.Nat.{mul-comm, mul-le-mul, mul-le-mul-right, suc-mul, le-trans}
+use native.Mathlib.Nat.{mul-le-mul, le-trans}
 use native.Mathlib.Omega.{arith}
 use mathlib.Core.List.{List}
 use lib.Dec.{lit≤}
-use lib.IntN.{ℤ, pos, negsuc, natAbs}
+use lib.IntN.{ℤ, natAbs}
 use lib.ListN.{length}
 use mir.Syntax.{w32}
-use lib.Signed.{mag}
 use mir.Val.{toZ, ofZ}
-use mir.Facts.{toZ-ofZ}
+use Rattle.laws.proofs.Lists.{place-in}
+use Rattle.laws.proofs.Signed.{again}
 use Rattle.rules.specs.declared.Taps.{Taps}
 use Rattle.rules.specs.Forms.{Motion}
 use Rattle.rules.specs.Reading.{after}
@@ -22,16 +22,10 @@ use Rattle.motion.specs.Moves.{motionOf, laidOut, Covers, columnsOf, Hol
 
 -- a motion number is read back from its bits
 pub back : (z : ℤ) → natAbs z ≤ 4096 → toZ w32 (ofZ w32 z) ≡ z
-back z h = toZ-ofZ {w = w32} {z = z} (record { sfits = small z h })
-  where
-    small : (z : ℤ) → natAbs z ≤ 4096 → mag z < 2 ^ 31
-    small (pos n) h = omega arith
-    small (negsuc n) h = omega arith
+back z h = again w32 z (omega arith)
 
 pub entry-in : (width height : ℕ) (field : List ℕ) (x y : ℕ) → Covers (width, height) field → x < width → y < height → y * width + x < length field
-entry-in width height field x y room across down =
-    let a = mul-le-mul-right width down in
-    omega (arith, suc-mul y width, mul-comm height width)
+entry-in width height field x y room across down = omega (arith, place-in down across)
 
 pub scaled : (y ratio : ℕ) → y ≤ 4096 → ratio ≤ 4 → y * ratio ≤ 2 ^ 24
 scaled y ratio h k = le-trans (mul-le-mul h k) (lit≤ tt)

@@ -10,7 +10,8 @@ use Rattle.rules.specs.Float.{_⊕_, _⊗_, mix}
 use Rattle.rules.specs.Reading.{texel, at}
 use Rattle.rules.specs.Scene.{under, scene}
 use Rattle.rules.specs.Render.{base, composed}
-use Rattle.whole.proofs.Points.{model-whole, sample-whole}
+use Rattle.laws.proofs.Points.{model-whole}
+use Rattle.whole.proofs.Points.{sample-whole}
 use Rattle.choice.specs.Kept.{isKept}
 use Rattle.moved.specs.Shown.{baseBy}
 

@@ -1,8 +1,8 @@
 -- Where the luma pixels of a chroma pixel stand, and that they stand within their slices. Assumes nothing.
 use Prim.Native.Nat.{ℕ, _+_, _*_, _<_}
-use native.Mathlib.Nat.{mul-comm}
 use native.Mathlib.Omega.{arith}
 use lib.Arith.{digits-lt}
+use Rattle.laws.proofs.Lists.{place-in}
 use Rattle.offsets.specs.declared.Grid.{Grid}
 use Rattle.offsets.specs.Grid.{Formed}
 
@@ -15,5 +15,4 @@ module _ (g : Grid) (f : Formed g) (x y dx dy : ℕ) (left : x < g .half) (above
   luma-column = let h = digits-lt left across in let e = f .across in omega arith
 
   pub luma-place : (y * g .ratio + dy) * g .width + (x * g .ratio + dx) < g .width * g .height
-  luma-place =
-      omega (arith, digits-lt luma-row luma-column, mul-comm (g .height) (g .width))
+  luma-place = place-in luma-row luma-column

@@ -17,7 +17,7 @@ use Rattle.plane.specs.Done.{dot, stamped, tallied, Stamped, RowDone, Ro
 
 -- ---- one dot
 
-tallied-few : (d : Dot) (n : ℕ) → tallied d n ≤ n + 1
+pub tallied-few : (d : Dot) (n : ℕ) → tallied d n ≤ n + 1
 tallied-few Keep n = omega arith
 tallied-few (Put b) n = omega arith
 

@@ -3,7 +3,7 @@ use mathlib.Core.Path.{_≡_, ap, _∙_}
 use mathlib.Core.Bool.{Bool, true, false, _&&_}
 use mathlib.Core.List.{List}
 use Prim.Native.Nat.{ℕ, _+_, _*_, _/_, _≤_, _<_}
-use native.Mathlib.Nat.{suc-mul, add-mul, mul-comm, mul-le-mul-right, div-one}
+use native.Mathlib.Nat.{add-mul, div-one}
 use native.Mathlib.Omega.{arith}
 use borrow.Author.Tests.{eq-eqb}
 use lib.IntN.{ℤ}
@@ -17,6 +17,7 @@ use Rattle.rules.specs.Reading.{texel, mixModels, mixedModel, modelAt, sample}
 use Rattle.sample.specs.Points.{around, sampledRow, sampledAt}
 use Rattle.lent.specs.declared.Plan.{Plan}
 use Rattle.lent.specs.Lent.{lent, ratioOf, Planned}
+use Rattle.laws.proofs.Lists.{place-in}
 use Rattle.point.specs.Points.{layerOf, Lies, LumaFits, lumaAt, rowOf, pointOf}
 
 -- ---- whatever the models of the pixels are
@@ -62,7 +63,7 @@ luma-in l pitch shift width height x y f left above =
     let a = f .apart in
     let s = f .shifted in
     let g = f .long in
-    omega (arith, suc-mul y pitch, mul-le-mul-right pitch above, mul-comm height pitch)
+    omega (arith, place-in {w = pitch} {x = x} above (omega arith))
 
 module _ (p : Plan) (l a b : List ℤ) (spare : List ℕ) (lies : Lies p l a b spare) (zero : p .shape .plane ≡ 0) where
   numbers-are : lent (p .shape .packed) l spare ≡ l

@@ -68,7 +68,7 @@ fn luma_by(
     mix_models(upper, lower, down.share)
 }
 
-// Two models of a row of chroma, mixed.
+// Two models of a row of chroma, mixed: at ratio 2 in straight lines.
 fn chroma_row(
     p: Plan,
     l: &[i16],
@@ -81,6 +81,11 @@ fn chroma_row(
     requires { ⌜ Lies p (now l) (now a) (now b) (now spare) × (across .first < p .across) × (across .second < p .across) × (y < p .down) ⌝ }
     ensures { λ r. ⌜ r ≡ rowOf (texelOf (layerOf p (now (l .entry)) (now (a .entry)) (now (b .entry)) (now (spare .entry))) (p .shape .plane)) across y ⌝ }
 {
+    if p.span == 2 {
+        let m = texel::chroma(p, l, spare, a, spare, b, spare, across.first, y);
+        let n = texel::chroma(p, l, spare, a, spare, b, spare, across.second, y);
+        return mix_models(m, n, across.share);
+    }
     let m = texel::texel(p, l, spare, a, spare, b, spare, across.first, y);
     let n = texel::texel(p, l, spare, a, spare, b, spare, across.second, y);
     mix_models(m, n, across.share)

@@ -1,42 +1,19 @@
 -- A call over a layer that no shared row refuses: the layer can be read, the byte planes fit, and the rest refuses nothing. Assumes nothing.
 use mathlib.Core.Path.{_≡_, refl}
-use mathlib.Core.Bool.{Bool, true, false, not, cond, _&&_, _||_, false≢true}
+use mathlib.Core.Bool.{Bool, true, false, not, cond, _&&_}
 use mathlib.Core.List.{List}
-use Prim.Native.Nat.{ℕ, _*_, _/_, _%_, _≤_}
-use native.Mathlib.Nat.{div-add-mod'}
+use Prim.Native.Nat.{ℕ, _*_, _/_}
 use native.Mathlib.Omega.{arith}
-use borrow.Author.Tests.{leb-true, eqb-true}
-use lib.Dec.{leb, eqb}
+use borrow.Author.Tests.{leb-true}
+use lib.Dec.{leb}
 use lib.IntN.{ℤ}
 use lib.ListN.{length}
-use Rattle.rules.specs.Domain.{isSize, areSizes, isRatio, isPitch, layerPitches, layerLengths}
-use Rattle.laws.proofs.Accepted.{both}
+use Rattle.rules.specs.Domain.{areSizes, isRatio, isPitch, layerPitches, layerLengths}
+use Rattle.laws.proofs.Accepted.{both, sizes-in, ratio-in, pitch-in}
 use Rattle.lent.specs.declared.Shape.{Shape}
 use Rattle.lent.specs.Lent.{lent, lay, planOf, Formed, Sound}
 use Rattle.lent.proofs.Plans.{planned-in}
 use Rattle.refuse.specs.Rows.{rowsOf}
-
-size-in : (n : ℕ) → isSize n ≡ true → (1 ≤ n) × (n ≤ 4096)
-size-in n e = let t = both (leb 1 n) (leb n 4096) e in (leb-true 1 n (t .0), leb-true n 4096 (t .1))
-
-pitch-in : (pitch width : ℕ) → isPitch pitch width ≡ true → (width ≤ pitch) × (pitch ≤ 65536)
-pitch-in pitch width e =
-    let t = both (leb width pitch) (leb pitch 65536) e in (leb-true width pitch (t .0), leb-true pitch 65536 (t .1))
-
-one-in : (r : ℕ) → (eqb r 1 || eqb r 2 || eqb r 4) ≡ true → ((1 ≤ r) × (r ≤ 4)) × (r ≡ 3 → ⊥)
-one-in r e = go (eqb r 1) (eqb r 2) (eqb r 4) (eqb-true r 1) (eqb-true r 2) (eqb-true r 4) e
-  where
-    is : (k : ℕ) → r ≡ k → (1 ≤ k) × (k ≤ 4) → (k ≡ 3 → ⊥) → ((1 ≤ r) × (r ≤ 4)) × (r ≡ 3 → ⊥)
-    is k f g h = rw f (g, h)
-
-    go : (a b c : Bool) → (a ≡ true → r ≡ 1) → (b ≡ true → r ≡ 2) → (c ≡ true → r ≡ 4) → (a || b || c) ≡ true → ((1 ≤ r) × (r ≤ 4)) × (r ≡ 3 → ⊥)
-    go true b c f g h e = is 1 (f refl) (omega arith, omega arith) (λ z. omega arith)
-    go false true c f g h e = is 2 (g refl) (omega arith, omega arith) (λ z. omega arith)
-    go false false true f g h e = is 4 (h refl) (omega arith, omega arith) (λ z. omega arith)
-    go false false false f g h e = absurd (false≢true e)
-
-whole-in : (n r : ℕ) → eqb (n % r) 0 ≡ true → n / r * r ≡ n
-whole-in n r e = let z = eqb-true (n % r) 0 e in let d = div-add-mod' n r in omega arith
 
 -- no row fits
 record Passed (a b c d e f g : Bool) (rest : ℕ) : Type 0 where
@@ -75,22 +52,20 @@ module _ (s : Shape) (l : List ℤ) (lb : List ℕ) (a : List ℤ) (ab : List �
       let h = s .height in
       let r = s .ratio in
       let t = passed (leb (s .plane) 2) (areSizes (w, h)) (isRatio r (w, h)) (layerPitches (lay s l lb a ab b bb)) pitched long (layerLengths (lay s l lb a ab b bb)) rest e in
-      let sizes = both (isSize w) (isSize h) (t .second) in
-      let m = both ((eqb r 1 || eqb r 2 || eqb r 4) && eqb (w % r) 0) (eqb (h % r) 0) (t .third) in
-      let n = both (eqb r 1 || eqb r 2 || eqb r 4) (eqb (w % r) 0) (m .0) in
+      let sizes = sizes-in (w, h) (t .second) in
+      let shrinks = ratio-in (w, h) r sizes (t .third) in
       let p = both (isPitch (s .luma) w) (isPitch (s .chroma) (w / r)) (t .fourth) in
       let nl = leb (2 * (s .luma * h)) (length (lent (s .packed) l lb)) in
       let na = leb (2 * (s .chroma * (h / r))) (length (lent (s .packed) a ab)) in
       let q = both (nl && na) (leb (2 * (s .chroma * (h / r))) (length (lent (s .packed) b bb))) (t .seventh) in
       let k = both nl na (q .0) in
-      let one = one-in r (n .0) in
       let formed : Formed s = record {
-        wide = size-in w (sizes .0);
-        tall = size-in h (sizes .1);
-        ratio = one .0;
-        power = one .1;
-        whole-across = whole-in w r (n .1);
-        whole-down = whole-in h r (m .1);
+        wide = sizes .0;
+        tall = sizes .1;
+        ratio = shrinks .few;
+        power = shrinks .power;
+        whole-across = shrinks .whole-across;
+        whole-down = shrinks .whole-down;
         luma-pitch = pitch-in (s .luma) w (p .0);
         chroma-pitch = pitch-in (s .chroma) (w / r) (p .1);
       } in

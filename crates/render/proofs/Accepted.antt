@@ -1,14 +1,14 @@
 -- A call of render that is not refused can be run. Assumes nothing.
-use mathlib.Core.Path.{_≡_}
+use mathlib.Core.Path.{_≡_, refl}
 use mathlib.Core.Bool.{false}
 use mathlib.Core.List.{List, [], _∷_}
 use Prim.Native.Nat.{ℕ}
 use lib.IntN.{ℤ}
 use lib.Ieee.{Float}
 use Rattle.rules.specs.Forms.{Plane, each}
-use Rattle.rules.specs.Domain.{motionLengths, motionNumbers, isTime}
+use Rattle.rules.specs.Domain.{isTime}
 use Rattle.rules.specs.Refusals.{_unless_, firstFitting, motionRows, renderRefusal}
-use Rattle.laws.proofs.Accepted.{row-passed}
+use Rattle.laws.proofs.Accepted.{row-right}
 use Rattle.lent.specs.declared.Shape.{Shape}
 use Rattle.lent.specs.Lent.{lay, planOf}
 use Rattle.layered_rows.specs.Rows.{RowsAsk}
@@ -43,13 +43,12 @@ module _ (s : Shape) (plain : s .packed ≡ false) (l a b : List ℤ) (output fi
       let given = t .0 .0 in
       let can = given .ready .sound in
       let lies : Lies (planOf s) l a b (first .bytes) = record { sound = can; plain = plain } in
-      let fields = row-passed 3 (motionLengths (motionOf fx fy bx by g)) _ (t .1) in
-      let numbers = row-passed 4 (motionNumbers (motionOf fx fy bx by g)) _ (fields .1) in
+      let ok = row-right (motionRows (motionOf fx fy bx by g) ((6 unless isTime time) ∷ [])) refl (t .1) in
       record {
         framed = record {
           first-ready = record { lies = lies; fits = given .ready .fits };
           second-ready = record { lies = lies; fits = given .fits };
         };
-        moves = moves-in fx fy bx by g (planOf s .span) (can .planned .span .1) (fields .0) (numbers .0);
+        moves = moves-in fx fy bx by g (planOf s .span) (can .planned .span .1) (ok 0 _ refl) (ok 1 _ refl);
         room = t .0 .1;
       }

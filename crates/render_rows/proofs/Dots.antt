@@ -17,7 +17,8 @@ use Rattle.plane.specs.Done.{dot}
 use Rattle.choice.specs.Kept.{isWithin}
 use Rattle.moved.specs.Shown.{seenBy, byteBy}
 use Rattle.lent.specs.declared.Plan.{Plan}
-use Rattle.lent.specs.Lent.{holding, ratioOf, Planned}
+use Rattle.lent.specs.Lent.{holding, Planned}
+use Rattle.lent.proofs.Plans.{span-is}
 use Rattle.cell.specs.Cells.{CellEnd}
 use Rattle.motion.specs.declared.Carried.{Carried}
 use Rattle.motion.specs.Moves.{Carries, mixedSteps}
@@ -47,9 +48,6 @@ module _ (l : Layer) (plane : ℕ) (f : Frames) (m : Motion) (algo : ℤ) (x y :
   far-is t = rw t
 
 -- ---- by the stored distance, and by the columns that are carried
-
-span-is : (p : Plan) → Planned p → p .span ≡ ratioOf (p .shape)
-span-is p h = ap (λ (q : Plan). q .span) (h .is)
 
 module _ (j : Job) (l a b : List ℤ) (first second fx fy bx by : List ℕ) (w : Works j l a b first second fx fy bx by) where
   -- pixels with one stored distance lie within `far`, or beyond it

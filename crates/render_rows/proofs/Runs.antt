@@ -32,10 +32,10 @@ module _ (now : List ℕ) (x end n : ℕ) (ahead : x < end) where
       → length now ≡ length output → n ≤ count + (x - from) → RunAsks p now pitch y x end n
   part-asks h low high same few =
       let room = h .room in
-      record { above = h .above; narrow = h .narrow; ahead = ahead; within = omega (arith, h .within); room = omega arith; few = omega (arith, h .few) }
+      record { above = h .above; narrow = h .narrow; ahead = omega arith; within = omega (arith, h .within); room = omega arith; few = omega (arith, h .few) }
 
   pub row-asks : {p : Plan} {output : List ℕ} {pitch y count : ℕ} → RowAsks p output pitch y count → end ≤ p .across → p .across ≤ 4096
       → length now ≡ length output → n ≤ count + (x - 0) → RunAsks p now pitch y x end n
   row-asks h high small same few =
       let room = h .room in
-      record { above = h .above; narrow = h .narrow; ahead = ahead; within = high; room = omega arith; few = omega (arith, h .few) }
+      record { above = h .above; narrow = h .narrow; ahead = omega arith; within = high; room = omega arith; few = omega (arith, h .few) }

@@ -3,9 +3,8 @@ use mathlib.Core.Path.{_≡_, sym, _∙_}
 use mathlib.Core.Bool.{Bool}
 use mathlib.Core.List.{List}
 use Prim.Native.Nat.{ℕ, _+_, _*_, _/_, _<_}
-use native.Mathlib.Nat.{div-lt-iff-lt-mul, mul-comm}
-use native.Mathlib.Omega.{arith}
-use lib.Arith.{digits-div, digits-lt, digits-mod}
+use native.Mathlib.Nat.{div-lt-iff-lt-mul}
+use lib.Arith.{digits-div, digits-mod}
 use lib.ListN.{length}
 use lib.Ieee.{Float}
 use Rattle.rules.specs.declared.Found.the-variants.{At, Nothing}
@@ -17,6 +16,7 @@ use Rattle.rules.specs.Window.{window, chromaAt, fitted}
 use Rattle.total.specs.declared.Counts.{Counts}
 use Rattle.offsets.specs.declared.Grid.{Grid}
 use Rattle.offsets.specs.Grid.{Formed}
+use Rattle.laws.proofs.Lists.{place-in}
 use Rattle.window.specs.declared.Offsets.{Offsets}
 use Rattle.window.specs.Lent.{offsetsOf}
 use Rattle.rough.specs.Search.{foundPut, search, searchAt, Searching}
@@ -33,10 +33,10 @@ module _ (g : Grid) (f : Formed g) (x y : ℕ) (left : x < g .width) (above : y 
   row-in = div-lt-iff-lt-mul {k = g .ratio} {x = y} {y = g .rows} (f .ratio .0) .1 (rw (f .down) above)
 
   pub spot-in : y / g .ratio * g .half + x / g .ratio < g .half * g .rows
-  spot-in = omega (arith, digits-lt row-in column-in, mul-comm (g .rows) (g .half))
+  spot-in = place-in row-in column-in
 
   pub pixel-in : y * g .width + x < g .width * g .height
-  pixel-in = omega (arith, digits-lt above left, mul-comm (g .height) (g .width))
+  pixel-in = place-in above left
 
 -- what is left at a pixel: (1, 0), or the model that is found
 module _ (parts : Parts) (g : Grid) (f : Formed g) (limit evidence : Float) (strict : Bool) (x y : ℕ) (left : x < g .width) (above : y < g .height)

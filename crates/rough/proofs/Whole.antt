@@ -1,10 +1,10 @@
 -- What the search leaves: the rough models, and a kept byte of 0 where there is none. Assumes nothing.
 use mathlib.Core.Path.{_≡_, refl, sym, _∙_}
 use mathlib.Core.Bool.{Bool}
-use mathlib.Core.Logic.{_⊎_, ⊎-elim}
+use mathlib.Core.Logic.{⊎-elim}
 use mathlib.Core.List.{List}
 use Prim.Native.Nat.{ℕ, zero, suc, _*_, _≤_, _<_}
-use native.Mathlib.Nat.{eq-or-lt-of-le, mul-comm}
+use native.Mathlib.Nat.{mul-comm}
 use native.Mathlib.Omega.{arith}
 use lib.ListN.{length, getD, length-set}
 use lib.Seq.{getD-set-same, getD-set-other}
@@ -20,10 +20,8 @@ use Rattle.table.specs.Models.{modelAt}
 use Rattle.laws.proofs.Lists.{table-same}
 use Rattle.table.proofs.Models.{put-same, put-other}
 use Rattle.table.proofs.Turns.{scan-flat}
+use Rattle.table.proofs.Laws.{last}
 use Rattle.rough.specs.Search.{flagOf, search, searchAt, Searched}
-
-last : (k n : ℕ) → k < suc n → (k ≡ n) ⊎ (k < n)
-last k n h = eq-or-lt-of-le (omega arith)
 
 -- a kept byte of 0: nothing was found
 none : (parts : Parts) (spot : ℕ) (f : Found) → flagOf f ≡ 0 → fitted parts spot f ≡ unfitted

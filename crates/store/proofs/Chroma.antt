@@ -3,7 +3,7 @@ use mathlib.Core.Path.{_≡_}
 use mathlib.Core.Bool.{Bool, true, cond, _&&_}
 use mathlib.Core.List.{List}
 use Prim.Native.Nat.{ℕ, zero, suc, _+_, _-_, _*_, _≤_, _<_}
-use native.Mathlib.Nat.{mul-comm, eq-or-lt-of-le}
+use native.Mathlib.Nat.{eq-or-lt-of-le}
 use native.Mathlib.Omega.{arith}
 use mathlib.Core.Logic.{_⊎_, inl, inr, ⊎-elim}
 use borrow.Author.Tests.{lt-ltb, le-ltb, leb-true, ne-eqb}
@@ -18,10 +18,12 @@ use Rattle.rules.specs.Forms.{turns, all, cells}
 use Rattle.rules.specs.Domain.{spans}
 use Rattle.rules.specs.Model.{Fitted}
 use Rattle.rules.specs.Assembly.{modelSlice, chromaTotal, cellEntry}
+use Rattle.table.proofs.Laws.{last}
 use Rattle.offsets.specs.declared.Grid.{Grid}
 use Rattle.offsets.specs.Grid.{Formed, Block, pointFits, fitsBelow}
 use Rattle.offsets.proofs.Totals.{fits-all}
 use Rattle.laws.proofs.Accepted.{both}
+use Rattle.laws.proofs.Lists.{place-in}
 use Rattle.store.specs.Entries.{Covered, coverLong, tailEntry, chromaEntry, Ready}
 
 -- the cell at column x of row y
@@ -46,7 +48,7 @@ covered g cover f e = record { narrow = few (g .width) (f .wide .1); low = few (
 
 module _ (g : Grid) (x y : ℕ) (left : x < g .half) (above : y < g .rows) where
   pub point-in : y * g .half + x < g .half * g .rows
-  point-in = omega (arith, digits-lt above left, mul-comm (g .rows) (g .half))
+  point-in = place-in above left
 
   module _ (models : List Fitted) (cover : List ℕ) (plane : ℕ) where
     pub first-is : chromaEntry models cover g plane (y * g .half + x) ≡ chromaTotal models (g .width) (g .ratio) plane (y * g .half + x)
@@ -60,9 +62,6 @@ module _ (g : Grid) (x y : ℕ) (left : x < g .half) (above : y < g .rows) where
         rw (le-ltb (g .half * g .rows + (y * g .half + x)) (g .half * g .rows) (omega arith), over)
 
 -- ---- totals that fit
-
-last : (k n : ℕ) → k < suc n → (k ≡ n) ⊎ (k < n)
-last k n h = eq-or-lt-of-le (omega arith)
 
 -- each of those that all pass a test
 all-pass : (n : ℕ) (test : ℕ → Bool) → all n test ≡ true → (k : ℕ) → k < n → test k ≡ true

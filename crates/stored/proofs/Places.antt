@@ -2,21 +2,18 @@
 use mathlib.Core.Path.{_≡_, sym, _∙_}
 use mathlib.Core.List.{List}
 use Prim.Native.Nat.{ℕ, _+_, _*_, _/_, _≤_, _<_}
-use native.Mathlib.Nat.{suc-mul, add-mul, mul-one, mul-comm, mul-le-mul-right, div-one, lt-of-lt-of-le}
+use native.Mathlib.Nat.{suc-mul, mul-one, mul-comm, mul-le-mul-right, div-one, lt-of-lt-of-le}
 use native.Mathlib.Omega.{arith}
 use borrow.Author.Tests.{eq-eqb, ne-eqb}
 use lib.IntN.{ℤ}
+use Rattle.laws.proofs.Lists.{second-in}
 use Rattle.lent.specs.declared.Plan.{Plan}
 use Rattle.lent.specs.Lent.{lumaLong, Planned, Inside}
 use Rattle.stored.specs.Stored.{RowFits}
 
--- a place in whole rows, and in the second of two halves of them
+-- a place in whole rows
 first-in : (row rows pitch col : ℕ) → row < rows → col ≤ pitch → row * pitch + col ≤ pitch * rows
 first-in row rows pitch col below left = omega (arith, suc-mul row pitch, mul-le-mul-right pitch below, mul-comm rows pitch)
-
-second-in : (row rows pitch col : ℕ) → row < rows → col < pitch → (rows + row) * pitch + col < 2 * (pitch * rows)
-second-in row rows pitch col below left =
-    omega (arith, suc-mul row pitch, mul-le-mul-right pitch below, mul-comm rows pitch, add-mul rows row pitch)
 
 -- the luma pixels of a pixel
 block-in : (x n r k : ℕ) → x < n → k ≤ r → x * r + k ≤ n * r

@@ -1,13 +1,12 @@
 -- Stored gains are added as whole numbers: their total as a float is the total of the floats. Assumes nothing.
 use mathlib.Core.Path.{_≡_, refl, sym, _∙_}
-use mathlib.Core.Bool.{Bool, true, false, cond}
 use mathlib.Core.List.{List}
-use Prim.Native.Nat.{ℕ, suc, _+_, _-_, _*_, _^_, _≤_, _<_}
-use native.Mathlib.Nat.{le-trans}
+use Prim.Native.Nat.{ℕ, _+_, _*_, _^_, _≤_, _<_}
+use native.Mathlib.Nat.{le-trans, add-zero, add-assoc}
 use native.Mathlib.Numerals.{add-one}
 use native.Mathlib.Omega.{arith}
-use lib.Dec.{T, ltb, ltb→lt, lit≤}
-use lib.IntN.{ℤ, pos, negsuc, natAbs, subℕ, _+ℤ_}
+use lib.Dec.{lit≤}
+use lib.IntN.{ℤ, pos, negsuc, natAbs, _+ℤ_}
 use lib.Signed.{mag, natAbs-le}
 use lib.ListN.{getD}
 use lib.Ieee.{binary32, ofBits, ofInt}
@@ -16,33 +15,28 @@ use mir.Val.{SFits}
 use Rattle.rules.specs.Forms.{turns}
 use Rattle.rules.specs.Literals.{0·0}
 use Rattle.rules.specs.Float.{signed}
+use Rattle.laws.proofs.Signed.{sum-size}
 use Rattle.laws.proofs.Whole.{add-int}
-use Rattle.stored.specs.Stored.{rowTotal, blockTotal, RowSummed, BlockSummed}
+use Rattle.stored.specs.Stored.{Added, rowTotal, blockTotal, RowSummed, BlockSummed}
 
 -- ---- one number more
-
-small-sub : (a b : ℕ) → natAbs (subℕ a b) ≤ a + b
-small-sub a b = go (ltb a b) (ltb→lt a b)
-  where
-    go : (t : Bool) → (T t → a < b) → natAbs (cond t (negsuc (b - suc a)) (pos (a - b))) ≤ a + b
-    go true h = let k = h tt in omega arith
-    go false h = omega arith
-
-pub small-sum : (a b : ℤ) → natAbs (a +ℤ b) ≤ natAbs a + natAbs b
-small-sum (pos a) (pos b) = omega arith
-small-sum (pos a) (negsuc b) = small-sub a (suc b)
-small-sum (negsuc a) (pos b) = let h = small-sub b (suc a) in omega arith
-small-sum (negsuc a) (negsuc b) = omega arith
 
 mag-small : (z : ℤ) → mag z ≤ natAbs z
 mag-small (pos n) = omega arith
 mag-small (negsuc n) = omega arith
 
 pub fits-sum : (t e : ℤ) → natAbs t ≤ 524288 → mag e < 2 ^ 15 → SFits w32 (t +ℤ e)
-fits-sum t e h k = record { sfits = omega (arith, small-sum t e, mag-small (t +ℤ e), natAbs-le e k) }
+fits-sum t e h k = record { sfits = omega (arith, sum-size t e, mag-small (t +ℤ e), natAbs-le e k) }
 
 pub fits-wide : (e : ℤ) → mag e < 2 ^ 15 → SFits w32 e
 fits-wide e h = record { sfits = omega arith }
+
+pub added-is : {luma : List ℤ} {k : ℕ} (total e : ℤ) → natAbs total ≤ 524288 → mag e < 2 ^ 15 → e ≡ getD luma k (pos 0) → Added luma k total (total +ℤ e)
+added-is total e h small is =
+    record {
+      is = sym (add-int binary32 total e (le-trans h (lit≤ tt)) (le-trans (natAbs-le e small) (lit≤ tt))) ∙ rw is;
+      small = omega (arith, sum-size total e, natAbs-le e small);
+    }
 
 -- ---- a row
 
@@ -50,15 +44,15 @@ pub row-none : (luma : List ℤ) (row pitch x span : ℕ) (total : ℤ) → RowS
 unfolding turns rowTotal
 row-none luma row pitch x span total = record { is = refl; small = omega arith }
 
-pub row-more : {luma : List ℤ} {row pitch x span n : ℕ} {total t : ℤ} (e : ℤ)
-    → RowSummed luma row pitch x span n total t → natAbs t ≤ 524288 → mag e < 2 ^ 15 → e ≡ getD luma (row * pitch + (x * span + n)) (pos 0)
-    → RowSummed luma row pitch x span (n + 1) total (t +ℤ e)
+pub row-more : {luma : List ℤ} {row pitch x span n : ℕ} {total t r : ℤ}
+    → RowSummed luma row pitch x span n total t → Added luma (row * pitch + (x * span + n)) t r → RowSummed luma row pitch x span (n + 1) total r
 unfolding turns rowTotal
-row-more {n = n} {t = t} e done h k is =
-    record {
-      is = sym (add-int binary32 t e (le-trans h (lit≤ tt)) (le-trans (natAbs-le e k) (lit≤ tt))) ∙ rw (done .is, is, add-one);
-      small = omega (arith, small-sum t e, natAbs-le e k);
-    }
+row-more done more = record { is = more .is ∙ rw (done .is, add-one); small = omega arith }
+
+pub row-of-two : {luma : List ℤ} {row pitch x : ℕ} {total one r : ℤ} → Added luma (row * pitch + x * 2) total one → Added luma (row * pitch + x * 2 + 1) one r
+    → RowSummed luma row pitch x 2 2 total r
+row-of-two {total = total} {one = one} first second =
+    row-more {n = 1} {t = one} (row-more {n = 0} {t = total} (row-none _ _ _ _ _ _) (rw add-zero first)) (rw (← add-assoc) second)
 
 -- ---- a block
 
@@ -74,3 +68,8 @@ pub block-more : {luma : List ℤ} {pitch span x y rows : ℕ} {t r : ℤ} → s
     → RowSummed luma (y * span + rows) pitch x span span t r → BlockSummed luma pitch span x y (rows + 1) r
 unfolding turns blockTotal
 block-more few done row = record { is = row .is ∙ rw (done .is, add-one); small = omega arith }
+
+pub block-of-two : {luma : List ℤ} {pitch x y : ℕ} {t r : ℤ} → RowSummed luma (y * 2) pitch x 2 2 (pos 0) t → RowSummed luma (y * 2 + 1) pitch x 2 2 t r
+    → BlockSummed luma pitch 2 x y 2 r
+block-of-two upper lower =
+    block-more {rows = 1} (omega arith) (block-more {rows = 0} (omega arith) (block-none _ _ _ _ _) (rw add-zero upper)) lower

@@ -1,6 +1,7 @@
 -- The gain of a pixel's texel, by the whole total of its stored gains. Assumes nothing.
 use mathlib.Core.Path.{_≡_, refl, sym, ap, _∙_}
 use mathlib.Core.Bool.{Bool, true, false, cond}
+use mathlib.Core.List.{List}
 use Prim.Native.Nat.{ℕ, suc, _+_, _-_, _*_, _^_, _<_}
 use native.Mathlib.Nat.{le-trans, zero-add, add-zero, mul-one}
 use native.Mathlib.Omega.{arith}
@@ -15,7 +16,10 @@ use Rattle.rules.specs.Literals.{0·0, 64·0, 4096·0}
 use Rattle.rules.specs.Float.{_⊕_, _⊗_, _⊘_, float, signed}
 use Rattle.rules.specs.Reading.{lumaGain, lumaOffset, storedChroma, gainTotal, lumaTexel, chromaTexel, texel}
 use Rattle.laws.proofs.Whole.{add-int}
-use Rattle.stored.specs.Stored.{rowTotal, blockTotal, BlockSummed, gainBy, offsetAt}
+use Rattle.lent.specs.declared.Plan.{Plan}
+use Rattle.lent.specs.Lent.{Planned}
+use Rattle.lent.proofs.Plans.{span-is}
+use Rattle.stored.specs.Stored.{rowTotal, blockTotal, BlockSummed, gainBy, Summed, offsetAt}
 use Rattle.stored.proofs.Sums.{zero-is}
 
 -- ---- a block
@@ -33,9 +37,17 @@ block-is l plane span x y r e some done = go (eqb plane 0) refl e
     go true t e = absurd (some e)
     go false t e = rw e (block-gain l plane x y r t (rw e at done))
 
+pub of-block : (p : Plan) → Planned p → (luma : List ℤ) (x y : ℕ) (r : ℤ) → (p .span ≡ 1 → ⊥)
+    → BlockSummed luma (p .shape .luma) (p .span) x y (p .span) r → Summed p luma x y r
+of-block p h luma x y r some done =
+    record {
+      is = λ f g. block-is _ _ _ _ _ _ (span-is p h) some done;
+      small = omega (arith, done .small, h .span);
+    }
+
 -- ---- a single gain
 
-scale-one : float 1 ⊗ 4096·0 ≡ 4096·0
+pub scale-one : float 1 ⊗ 4096·0 ≡ 4096·0
 unfolding ofInt ofBits mul
 scale-one = refl
 

@@ -23,6 +23,11 @@ pub record RowFits (luma : List ℤ) (row pitch x span : ℕ) : Type 0 where
   pub left : x ≤ 4096
   pub inside : row * pitch + (x * span + span) ≤ length luma
 
+-- a total with the number at place k added
+pub record Added (luma : List ℤ) (k : ℕ) (total r : ℤ) : Type 0 where
+  pub is : signed r ≡ signed total ⊕ signed (getD luma k (pos 0))
+  pub small : natAbs r ≤ natAbs total + 32768
+
 -- the first n gains of such a row, added to a total, as floats
 unfoldable pub rowTotal : List ℤ → (row pitch x span n : ℕ) → Float → Float
 rowTotal luma row pitch x span = turns (λ dx t. t ⊕ signed (getD luma (row * pitch + (x * span + dx)) (pos 0)))

@@ -2,10 +2,21 @@
 use lent::Plan;
 use rules::Offset;
 ghost use mathlib.Core.Path.{_≡_};
+ghost use mathlib.Core.List.{[]};
 ghost use Prim.Native.Nat.{_+_, _<_, _≤_};
 ghost use lib.IntN.{natAbs};
-ghost use Rattle.lent.specs.Lent.{lent, lay, lumaLong, Planned, Sound, Inside};
-ghost use Rattle.stored.specs.Stored.{RowFits, RowSummed, BlockSummed, Summed, offsetAt};
+ghost use lib.ListN.{length};
+ghost use Rattle.rules.specs.Reading.{lumaOffset, storedChroma};
+ghost use Rattle.lent.specs.Lent.{lent, lay, holding, lumaLong, chromaLong, Planned, Sound, Inside};
+ghost use Rattle.stored.specs.Stored.{RowFits, Added, RowSummed, BlockSummed, Summed, offsetAt};
+
+// A total with one gain more.
+fn added(packed: bool, l: &[i16], lb: &[u8], k: usize, total: i32) -> i32
+    requires { ⌜ (k < length (lent packed (now l) (now lb))) × (natAbs total ≤ 524288) ⌝ }
+    ensures { λ r. ⌜ Added (lent packed (now (l .entry)) (now (lb .entry))) k total r ⌝ }
+{
+    total + lent::entry(packed, l, lb, k) as i32
+}
 
 // A row of a pixel's gains, added to a total.
 fn gain_row(
@@ -25,10 +36,45 @@ fn gain_row(
     let mut dx = 0;
     while dx < span {
         let at = plane::place(row, pitch, plane::place(x, span, dx));
-        t = t + lent::entry(packed, l, lb, at) as i32;
+        t = added(packed, l, lb, at, t);
         dx += 1;
     }
     t
+}
+
+// Two gains of a row, added to a total: the common span, in a straight line.
+fn gain_two(
+    packed: bool,
+    l: &[i16],
+    lb: &[u8],
+    row: usize,
+    pitch: usize,
+    x: usize,
+    total: i32,
+) -> i32
+    requires { ⌜ RowFits (lent packed (now l) (now lb)) row pitch x 2 × (natAbs total ≤ 393216) ⌝ }
+    ensures { λ r. ⌜ RowSummed (lent packed (now (l .entry)) (now (lb .entry))) row pitch x 2 2 total r ⌝ }
+{
+    let k = plane::place(row, pitch, x * 2);
+    let one = added(packed, l, lb, k, total);
+    added(packed, l, lb, k + 1, one)
+}
+
+// The total of the gains of a pixel that has one.
+pub fn one(p: Plan, l: &[i16], lb: &[u8], x: usize, y: usize) -> i32
+    requires { ⌜ Planned p × Inside p x y × lumaLong p (lent (p .shape .packed) (now l) (now lb)) × (p .span ≡ 1) ⌝ }
+    ensures { λ r. ⌜ Summed p (lent (p .shape .packed) (now (l .entry)) (now (lb .entry))) x y r ⌝ }
+{
+    lent::entry(p.shape.packed, l, lb, plane::place(y, p.shape.luma, x)) as i32
+}
+
+// And of one that has two by two.
+pub fn four(p: Plan, l: &[i16], lb: &[u8], x: usize, y: usize) -> i32
+    requires { ⌜ Planned p × Inside p x y × lumaLong p (lent (p .shape .packed) (now l) (now lb)) × (p .span ≡ 2) ⌝ }
+    ensures { λ r. ⌜ Summed p (lent (p .shape .packed) (now (l .entry)) (now (lb .entry))) x y r ⌝ }
+{
+    let t = gain_two(p.shape.packed, l, lb, y * 2, p.shape.luma, x, 0);
+    gain_two(p.shape.packed, l, lb, y * 2 + 1, p.shape.luma, x, t)
 }
 
 // The gains of a pixel, row by row.
@@ -47,16 +93,47 @@ fn gain_block(p: Plan, l: &[i16], lb: &[u8], x: usize, y: usize) -> i32
     t
 }
 
-// The total of a pixel's gains: of one, or of a block.
+// The total of a pixel's gains.
 pub fn gains(p: Plan, l: &[i16], lb: &[u8], x: usize, y: usize) -> i32
     requires { ⌜ Planned p × Inside p x y × lumaLong p (lent (p .shape .packed) (now l) (now lb)) ⌝ }
     ensures { λ r. ⌜ Summed p (lent (p .shape .packed) (now (l .entry)) (now (lb .entry))) x y r ⌝ }
 {
     if p.span == 1 {
-        lent::entry(p.shape.packed, l, lb, plane::place(y, p.shape.luma, x)) as i32
-    } else {
-        gain_block(p, l, lb, x, y)
+        return one(p, l, lb, x, y);
     }
+    if p.span == 2 {
+        return four(p, l, lb, x, y);
+    }
+    gain_block(p, l, lb, x, y)
+}
+
+// The offset of a luma pixel.
+pub fn luma_offset(p: Plan, l: &[i16], lb: &[u8], x: usize, y: usize) -> Offset
+    requires { ⌜ Planned p × Inside p x y × lumaLong p (lent (p .shape .packed) (now l) (now lb)) × (p .shape .plane ≡ 0) ⌝ }
+    ensures { λ r. ⌜ r ≡ lumaOffset (holding (p .shape) (lent (p .shape .packed) (now (l .entry)) (now (lb .entry))) [] []) x y ⌝ }
+{
+    let k = plane::place(p.shape.height + y, p.shape.luma, x);
+    Offset(lent::entry(p.shape.packed, l, lb, k))
+}
+
+// And of a chroma pixel.
+pub fn chroma_offset(
+    p: Plan,
+    a: &[i16],
+    ab: &[u8],
+    b: &[i16],
+    bb: &[u8],
+    x: usize,
+    y: usize,
+) -> Offset
+    requires { ⌜ Planned p × Inside p x y × chromaLong p (lent (p .shape .packed) (now a) (now ab)) × chromaLong p (lent (p .shape .packed) (now b) (now bb)) × (p .shape .plane ≡ 0 → ⊥) ⌝ }
+    ensures { λ r. ⌜ r ≡ storedChroma (holding (p .shape) [] (lent (p .shape .packed) (now (a .entry)) (now (ab .entry))) (lent (p .shape .packed) (now (b .entry)) (now (bb .entry)))) (p .shape .plane) x y ⌝ }
+{
+    let k = plane::place(y, p.shape.chroma, x);
+    if p.shape.plane == 1 {
+        return Offset(lent::entry(p.shape.packed, a, ab, k));
+    }
+    Offset(lent::entry(p.shape.packed, b, bb, k))
 }
 
 // The offset of a pixel.
@@ -74,14 +151,9 @@ pub fn offset(
     requires { ⌜ Sound p (now l) (now lb) (now a) (now ab) (now b) (now bb) × Inside p x y ⌝ }
     ensures { λ r. ⌜ r ≡ offsetAt (lay (p .shape) (now (l .entry)) (now (lb .entry)) (now (a .entry)) (now (ab .entry)) (now (b .entry)) (now (bb .entry))) (p .shape .plane) x y ⌝ }
 {
-    let plane = p.shape.plane;
-    if plane == 0 {
-        let k = plane::place(p.shape.height + y, p.shape.luma, x);
-        return Offset(lent::entry(p.shape.packed, l, lb, k));
+    if p.shape.plane == 0 {
+        luma_offset(p, l, lb, x, y)
+    } else {
+        chroma_offset(p, a, ab, b, bb, x, y)
     }
-    let k = plane::place(y, p.shape.chroma, x);
-    if plane == 1 {
-        return Offset(lent::entry(p.shape.packed, a, ab, k));
-    }
-    Offset(lent::entry(p.shape.packed, b, bb, k))
 }

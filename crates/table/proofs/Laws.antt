@@ -3,7 +3,7 @@ use mathlib.Core.Path.{_≡_, refl, _∙_}
 use mathlib.Core.Logic.{_⊎_, inl, inr, ⊎-elim}
 use mathlib.Core.Bool.{Bool, true, false}
 use mathlib.Core.List.{List}
-use Prim.Native.Nat.{ℕ, _+_, _-_, _*_, _≤_, _<_}
+use Prim.Native.Nat.{ℕ, suc, _+_, _-_, _*_, _≤_, _<_}
 use native.Mathlib.Nat.{eq-or-lt-of-le}
 use native.Mathlib.Omega.{arith}
 use borrow.Author.Tests.{ltb-true, ltb-false, eqb-true, eqb-false}
@@ -22,13 +22,13 @@ pub filled-none : {A : Type 0} (f read : ℕ → A) (lo : ℕ) → Filled f read
 filled-none f read lo k low high = absurd (omega arith)
 
 -- the last place, or one before
-last : (k hi : ℕ) → k < hi + 1 → (k ≡ hi) ⊎ (k < hi)
-last k hi h = eq-or-lt-of-le (omega arith)
+pub last : (k n : ℕ) → k < suc n → (k ≡ n) ⊎ (k < n)
+last k n h = eq-or-lt-of-le (omega arith)
 
 -- one entry more, the others as they were
 pub filled-more : {A : Type 0} {f before after : ℕ → A} {lo hi : ℕ} → Filled f before lo hi → after hi ≡ f hi
     → ((k : ℕ) → k < hi → after k ≡ before k) → Filled f after lo (hi + 1)
-filled-more {hi = hi} done e same k low high = ⊎-elim (λ q. rw q e) (λ b. same k b ∙ done k low b) (last k hi high)
+filled-more {hi = hi} done e same k low high = ⊎-elim (λ q. rw q e) (λ b. same k b ∙ done k low b) (last k hi (omega arith))
 
 order : (a b : ℕ) → (a < b) ⊎ (b ≤ a)
 order a b = go (ltb a b) refl
@@ -64,8 +64,8 @@ pub paired-more : {f : ℕ → ℤ} {half lo k : ℕ} {before now after : List �
     → after ≡ set (set now k (f k)) (half + k) (f (half + k)) → Paired f half lo (k + 1) before after
 paired-more {f} {half} {lo} {k} {before} {now} {after} done inside e =
     rw e (record {
-      first = λ j low high. ⊎-elim (λ q. rw q (second-still k (there f now k near))) (λ b. kept j (done .first j low b)) (last j k high);
-      second = λ j low high. ⊎-elim (λ q. rw q (there f middle (half + k) far)) (λ b. kept (half + j) (done .second j low b)) (last j k high);
+      first = λ j low high. ⊎-elim (λ q. rw q (second-still k (there f now k near))) (λ b. kept j (done .first j low b)) (last j k (omega arith));
+      second = λ j low high. ⊎-elim (λ q. rw q (there f middle (half + k) far)) (λ b. kept (half + j) (done .second j low b)) (last j k (omega arith));
       kept = λ j q. kept j (done .kept j q);
     })
   where

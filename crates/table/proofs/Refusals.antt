@@ -1,12 +1,12 @@
 -- Tables of refusals: row by row, and the last row. Assumes nothing.
 use mathlib.Core.Path.{_≡_, refl, sym}
-use mathlib.Core.Bool.{Bool, true, false, not, cond, _&&_}
+use mathlib.Core.Bool.{Bool, true, false, not, cond}
 use mathlib.Core.List.{[], _∷_, _++_}
 use Prim.Native.Nat.{ℕ}
 use borrow.Author.Tests.{not-true}
 use lib.Dec.{eqb}
 use Rattle.rules.specs.Refusals.{Table, _unless_, firstFitting}
-use Rattle.laws.proofs.Accepted.{both}
+use Rattle.laws.proofs.Accepted.{both, numbered}
 
 -- a row, as `unless` gives it, before a table that is done
 pub row : {a right : Bool} (n : ℕ) {u v : ℕ} (rows : Table) → u ≡ cond (not a) n v → a ≡ right → v ≡ firstFitting rows → u ≡ firstFitting ((n unless right) ∷ rows)
@@ -20,11 +20,6 @@ abbrev pub front : Table → Table
 front [] = []
 front (a ∷ []) = []
 front (a ∷ (b ∷ rest)) = a ∷ front (b ∷ rest)
-
--- no row of them gives 0
-abbrev pub numbered : Table → Bool
-numbered [] = true
-numbered (row ∷ rest) = not (eqb (row .0) 0) && numbered rest
 
 -- the number with the last row, which gives `last` unless `right`
 abbrev pub after : (last : ℕ) → (right : Bool) → (number : ℕ) → ℕ

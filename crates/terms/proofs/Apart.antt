@@ -8,10 +8,10 @@ use native.Mathlib.Omega.{arith}
 use lib.Ieee.{Float, nan, inf, fin, lt, neg, ofBits}
 use Rattle.rules.specs.Literals.{24·0}
 use Rattle.rules.specs.Float.{abs}
+use Rattle.laws.proofs.Lists.{either}
 
 pub bit : (b : Bool) → cond b 1 0 ≤ 1
-bit true = omega arith
-bit false = omega arith
+bit b = either b 1 0 1 (omega arith) (omega arith)
 
 pub both-signs : (d : Float) → cond (lt 24·0 d) 1 0 + cond (lt 24·0 (neg d)) 1 0 ≡ cond (lt 24·0 (abs d)) 1 0
 unfolding lt neg abs ofBits

@@ -1,61 +1,32 @@
 -- A gain against 0.2, by the whole total of its stored gains: a quotient by a power of two is exact. Assumes nothing.
 use mathlib.Core.Path.{_≡_, refl, sym, ap, _∙_}
 use mathlib.Core.Bool.{Bool, true, false, cond, false≢true}
-use Prim.Native.Nat.{ℕ, zero, suc, _+_, _*_, _^_, _≤_, _<_}
-use native.Mathlib.Nat.{le-trans, mul-assoc, mul-comm, mul-pos, mul-le-mul-right, lt-of-le-of-lt}
+use Prim.Native.Nat.{ℕ, zero, suc, _*_, _^_, _≤_, _<_}
+use native.Mathlib.Nat.{le-trans, mul-assoc, mul-le-mul-right, lt-of-le-of-lt}
 use native.Mathlib.Omega.{arith}
-use lib.Dec.{T, leb, eqb, le→leb, leb→le, lt→ltb, lit<, lit≤}
+use lib.Dec.{leb, eqb, le→leb, leb→le, lit<, lit≤}
 use lib.IntN.{ℤ, pos, negsuc, negℤ, natAbs}
 use lib.Signed.{leZ}
 use lib.Pow.{pow-pos}
-use lib.Ieee.{Float, nan, inf, fin, binary32, up, down, round, div, mul, le, ofBits, ofInt, inFloat, unlike}
+use lib.Ieee.{Float, nan, inf, fin, binary32, up, down, round, mul, le, ofBits, ofInt}
 use lib.Ieee.Exact.{HasValue, round-exact}
-use lib.Ieee.Fits.{down-pos}
-use lib.Ieee.Scale.{round-same}
 use mir.Syntax.{w32}
 use mir.Val.{SFits}
 use Rattle.rules.specs.Literals.{0·2, 4096·0}
 use Rattle.rules.specs.Float.{_⊗_, _⊘_, _≼_, abs, float, signed}
-use Rattle.laws.proofs.Whole.{minus?, int-value, le-by-values, values-by-le}
+use Rattle.laws.proofs.Points.{div-at}
+use Rattle.laws.proofs.Whole.{minus?, int-value, le-by-values, values-by-le, same-test}
 use Rattle.plane.proofs.Laws.{leb-same}
 use Rattle.stored.specs.Stored.{gainBy}
 use Rattle.texel.specs.Least.{leastOf}
 
 -- ---- a whole total as a float
 
-pub in-float : (z : ℤ) → natAbs z ≤ 524288 → T (inFloat binary32 z)
-unfolding inFloat
-in-float (pos n) h = le→leb n (2 ^ 24) (omega arith)
-in-float (negsuc n) h = lt→ltb n (2 ^ 24) (omega arith)
-
-pub scale-one : float 1 ⊗ 4096·0 ≡ 4096·0
-unfolding ofInt ofBits mul
-scale-one = refl
-
 pub scale-four : float 4 ⊗ 4096·0 ≡ ofBits binary32 0x46800000
 unfolding ofInt ofBits mul
 scale-four = refl
 
 -- ---- a quotient by 2 ^ k
-
-div-at : (k : ℕ) (x : Float) (s : Bool) (a : ℕ) → HasValue x s a 1 → x ⊘ fin false 1 (pos k) ≡ round binary32 s a (2 ^ k)
-unfolding div
-div-at k nan s a v = absurd v
-div-at k (inf t) s a v = absurd v
-div-at k (fin t m e) s a v =
-    ap (λ (z : Bool). round binary32 z (m * up e * 1) (1 * 2 ^ k * down e)) (sign t ∙ v .0)
-    ∙ round-same binary32 s (m * up e * 1) (1 * 2 ^ k * down e) a (2 ^ k) (above (2 ^ k) (down e) (mul-pos (pow-pos k) (down-pos e))) (pow-pos k)
-    (cross (m * up e * 1) a (2 ^ k) (down e) (v .1))
-  where
-    sign : (t : Bool) → unlike t false ≡ t
-    sign true = refl
-    sign false = refl
-
-    above : (p d : ℕ) → 0 < p * d → 0 < 1 * p * d
-    above p d h = omega arith
-
-    cross : (x a p d : ℕ) → x ≡ a * d → x * p ≡ a * (1 * p * d)
-    cross x a p d e = rw e (omega arith)
 
 exact : (s : Bool) (a k j : ℕ) → 2 ^ 149 ≡ 2 ^ j * 2 ^ k → 524288 * 2 ^ j < 2 ^ 277 → a ≤ 524288 → HasValue (round binary32 s a (2 ^ k)) s a (2 ^ k)
 exact s a k j e small h =
@@ -74,12 +45,6 @@ fifth-value = (refl, refl)
 
 -- ---- the test
 
-same : (a b : Bool) → (T a → T b) → (T b → T a) → a ≡ b
-same true true f g = refl
-same true false f g = absurd (f tt)
-same false true f g = absurd (g tt)
-same false false f g = refl
-
 module _ (z : ℤ) (small : natAbs z ≤ 524288) where
   test-at : (n k j least : ℕ) → float (n * n) ⊗ 4096·0 ≡ fin false 1 (pos k) → 2 ^ 149 ≡ 2 ^ j * 2 ^ k → 524288 * 2 ^ j < 2 ^ 277
       → ((a : ℕ) → 13421773 * 2 ^ k ≤ a * 2 ^ 26 → least ≤ a) → ((a : ℕ) → least ≤ a → 13421773 * 2 ^ k ≤ a * 2 ^ 26)
@@ -89,7 +54,7 @@ module _ (z : ℤ) (small : natAbs z ≤ 524288) where
       let v : HasValue x (minus? z) (natAbs z) (2 ^ k) = rw (div-at k (signed z) (minus? z) (natAbs z) (int-value binary32 z (le-trans small (lit≤ tt)))) (exact (minus? z) (natAbs z) k j whole low small) in
       let w = abs-value x (minus? z) (natAbs z) (2 ^ k) v in
       rw scale
-      (same (le 0·2 (abs x)) (leb least (natAbs z))
+      (same-test (le 0·2 (abs x)) (leb least (natAbs z))
       (λ t. le→leb least (natAbs z) (up (natAbs z) (values-by-le 0·2 (abs x) false 13421773 (2 ^ 26) false (natAbs z) (2 ^ k) fifth-value w (lit< tt) (pow-pos k) t)))
       (λ t. le-by-values 0·2 (abs x) false 13421773 (2 ^ 26) false (natAbs z) (2 ^ k) (lit< tt) (pow-pos k) fifth-value w (down (natAbs z) (leb→le least (natAbs z) t))))
 

@@ -1,1 +1,2 @@
 pub mod Fifth
+pub mod Models

@@ -1,1 +1,2 @@
 pub mod Least
+pub mod Models

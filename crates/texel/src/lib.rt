@@ -11,6 +11,7 @@ ghost use Rattle.rules.specs.Reading.{texel as texelOf};
 ghost use Rattle.lent.specs.Lent.{lent, lay, Sound, Inside};
 ghost use Rattle.stored.specs.Stored.{gainBy, Summed};
 ghost use Rattle.texel.specs.Least.{leastOf};
+ghost use Rattle.texel.specs.Models.{modelBy};
 
 // A gain, of the total of span² stored gains. The common divisors are constants, powers of two.
 pub fn gain_of(total: i32, span: usize) -> f32
@@ -53,6 +54,55 @@ pub fn strong(total: i32, span: usize) -> bool
     least <= total || total <= -least
 }
 
+// The model of these stored numbers.
+fn model_of(total: i32, span: usize, o: Offset) -> Model
+    requires { ⌜ (natAbs total ≤ 524288) × (span ≤ 4) ⌝ }
+    ensures { λ r. ⌜ r ≡ modelBy total span o ⌝ }
+{
+    Model {
+        gain: gain_of(total, span),
+        offset: offset_of(o),
+    }
+}
+
+// The model of a luma pixel, in a straight line.
+pub fn luma(
+    p: Plan,
+    l: &[i16],
+    lb: &[u8],
+    a: &[i16],
+    ab: &[u8],
+    b: &[i16],
+    bb: &[u8],
+    x: usize,
+    y: usize,
+) -> Model
+    requires { ⌜ Sound p (now l) (now lb) (now a) (now ab) (now b) (now bb) × Inside p x y × (p .shape .plane ≡ 0) ⌝ }
+    ensures { λ r. ⌜ r ≡ texelOf (lay (p .shape) (now (l .entry)) (now (lb .entry)) (now (a .entry)) (now (ab .entry)) (now (b .entry)) (now (bb .entry))) (p .shape .plane) x y ⌝ }
+{
+    let total = stored::one(p, l, lb, x, y);
+    model_of(total, 1, stored::luma_offset(p, l, lb, x, y))
+}
+
+// And of a chroma pixel that has two by two gains.
+pub fn chroma(
+    p: Plan,
+    l: &[i16],
+    lb: &[u8],
+    a: &[i16],
+    ab: &[u8],
+    b: &[i16],
+    bb: &[u8],
+    x: usize,
+    y: usize,
+) -> Model
+    requires { ⌜ Sound p (now l) (now lb) (now a) (now ab) (now b) (now bb) × Inside p x y × (p .span ≡ 2) ⌝ }
+    ensures { λ r. ⌜ r ≡ texelOf (lay (p .shape) (now (l .entry)) (now (lb .entry)) (now (a .entry)) (now (ab .entry)) (now (b .entry)) (now (bb .entry))) (p .shape .plane) x y ⌝ }
+{
+    let total = stored::four(p, l, lb, x, y);
+    model_of(total, 2, stored::chroma_offset(p, a, ab, b, bb, x, y))
+}
+
 // The model of a pixel with this total of gains.
 pub fn texel_of(
     p: Plan,
@@ -70,10 +120,7 @@ pub fn texel_of(
     ensures { λ r. ⌜ r ≡ texelOf (lay (p .shape) (now (l .entry)) (now (lb .entry)) (now (a .entry)) (now (ab .entry)) (now (b .entry)) (now (bb .entry))) (p .shape .plane) x y ⌝ }
 {
     let o = stored::offset(p, l, lb, a, ab, b, bb, x, y);
-    Model {
-        gain: gain_of(total, p.span),
-        offset: offset_of(o),
-    }
+    model_of(total, p.span, o)
 }
 
 // The model of a pixel.

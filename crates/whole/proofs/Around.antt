@@ -1,8 +1,8 @@
 -- The rings of a pixel are those of its coordinates as floats. Assumes nothing.
-use mathlib.Core.Path.{_≡_, refl, sym, ap, _∙_}
+use mathlib.Core.Path.{_≡_, refl, _∙_}
 use mathlib.Core.Bool.{Bool, true, false, cond, _&&_}
 use mathlib.Core.List.{List}
-use Prim.Native.Nat.{ℕ, zero, suc, _+_, _-_, _*_, _/_, _%_, _^_, _≤_, _<_, min}
+use Prim.Native.Nat.{ℕ, zero, suc, _+_, _-_, _*_, _/_, _%_, _≤_, _<_, min}
 use native.Mathlib.Nat.{mul-le-mul}
 use native.Mathlib.Omega.{arith}
 use lib.Dec.{eqb, lit<, lit≤}
@@ -16,12 +16,13 @@ use Rattle.rules.specs.Forms.{Layer, Plane, planeRatio, planeSize, turns}
 use Rattle.rules.specs.Literals.{0·0, 4·0}
 use Rattle.rules.specs.Float.{_⊕_, _⊗_, _⊘_, float}
 use Rattle.rules.specs.Reading.{heldTo}
-use Rattle.rules.specs.Scene.{sign, under, gathered, point, stepped, ring, meanOr, filled}
+use Rattle.rules.specs.Scene.{sign, under, point, stepped, ring, meanOr, filled}
 use Rattle.laws.proofs.Whole.{mul-int}
 use Rattle.lent.specs.declared.Plan.{Plan}
 use Rattle.lent.specs.Lent.{holding, Planned, Inside}
 use Rattle.whole.specs.Rings.{heldAt, seen, gatheredOn, rowRing, wholeRing, means}
-use Rattle.whole.proofs.Points.{model-whole, sample-whole}
+use Rattle.laws.proofs.Points.{model-whole}
+use Rattle.whole.proofs.Points.{sample-whole}
 use Rattle.whole.proofs.Moved.{held-left, held-middle, held-right}
 
 -- ---- a coordinate of a ring
@@ -130,20 +131,12 @@ means-from l plane raw size x y radius (suc (suc zero)) other low high = refl
 means-from l plane raw size x y radius (suc (suc (suc zero))) other low high = refl
 means-from l plane raw size x y radius (suc (suc (suc (suc n)))) other low high = absurd (omega arith)
 
--- a ring with any
-pub means-found : (l : Layer) (plane : ℕ) (raw : Plane) (size : ℕ × ℕ) (x y radius times : ℕ) (other : Scene) (r : Ring) → 1 ≤ times → times ≤ 3
-    → r ≡ wholeRing l plane raw size x y (radius * times) 3 → lt 0·0 (r .count) ≡ true
-    → means l plane raw size x y radius (4 - times) other ≡ Lifted (r .total ⊘ r .count)
+-- a ring with any, or with none
+pub means-by : (l : Layer) (plane : ℕ) (raw : Plane) (size : ℕ × ℕ) (x y radius times : ℕ) (other : Scene) (r : Ring) (some : Bool) → 1 ≤ times → times ≤ 3
+    → r ≡ wholeRing l plane raw size x y (radius * times) 3 → lt 0·0 (r .count) ≡ some
+    → means l plane raw size x y radius (4 - times) other ≡ cond some (Lifted (r .total ⊘ r .count)) (means l plane raw size x y radius (4 - (times + 1)) other)
 unfolding meanOr
-means-found l plane raw size x y radius times other r low high e t =
-    means-from l plane raw size x y radius times other low high ∙ rw (← e) (simp t)
-
--- a ring with none
-pub means-passed : (l : Layer) (plane : ℕ) (raw : Plane) (size : ℕ × ℕ) (x y radius times : ℕ) (other : Scene) (r : Ring) → 1 ≤ times → times ≤ 3
-    → r ≡ wholeRing l plane raw size x y (radius * times) 3 → lt 0·0 (r .count) ≡ false
-    → means l plane raw size x y radius (4 - times) other ≡ means l plane raw size x y radius (4 - (times + 1)) other
-unfolding meanOr
-means-passed l plane raw size x y radius times other r low high e t =
+means-by l plane raw size x y radius times other r some low high e t =
     means-from l plane raw size x y radius times other low high ∙ rw (← e) (simp t)
 
 -- ---- over the plane of a plan

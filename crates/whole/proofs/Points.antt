@@ -1,33 +1,27 @@
 -- At a whole point a layer's model is the texel, and a plane's sample is the byte: a mix by 0 is its first operand. Assumes nothing.
-use mathlib.Core.Path.{_≡_, refl, sym, ap, _∙_}
-use mathlib.Core.Bool.{Bool, true, false, not, cond}
-use mathlib.Core.List.{List}
-use Prim.Native.Nat.{ℕ, suc, _+_, _-_, _*_, _^_, _≤_, _<_}
+use mathlib.Core.Path.{_≡_, refl, sym, _∙_}
+use mathlib.Core.Bool.{Bool, true, false, cond}
+use Prim.Native.Nat.{ℕ, _-_, _*_, _^_, _≤_, _<_}
 use native.Mathlib.Nat.{le-trans, mul-one, mul-zero, zero-mul, add-zero, sub-zero}
 use native.Mathlib.Omega.{arith}
 use borrow.Author.Tests.{le-ltb}
-use lib.Dec.{T, ltb, ltb→lt, lit<, lit≤}
+use lib.Dec.{ltb, lit<, lit≤}
 use lib.IntN.{ℤ, pos}
 use lib.ListN.{getD}
-use lib.Ieee.{Float, nan, inf, fin, binary32, up, down, round, sum, sub, mul, neg, ofBits, ofInt, unlike}
+use lib.Ieee.{Float, fin, binary32, up, down, round, sum, sub, mul, neg, ofBits, ofInt, unlike}
 use lib.Ieee.Exact.{HasValue}
 use lib.Ieee.Fits.{down-pos}
 use lib.Ieee.Scale.{round-same}
 use lib.Ieee.Back.{round-whole}
-use Rattle.rules.specs.Forms.{Layer, Plane}
+use Rattle.rules.specs.Forms.{Plane}
 use Rattle.rules.specs.Literals.{0·0}
-use Rattle.rules.specs.Float.{_⊕_, _⊖_, _⊗_, float, cut, mix}
-use Rattle.rules.specs.Reading.{texel, modelAt, byte, at, after, fraction, sample}
+use Rattle.rules.specs.Float.{_⊕_, _⊖_, _⊗_, float, mix}
+use Rattle.rules.specs.Reading.{at, after, fraction, sample}
+use Rattle.laws.proofs.Value.{by-value}
 use Rattle.laws.proofs.Whole.{int-value, add-at}
-use Rattle.laws.proofs.Points.{cut-float, fraction-float}
+use Rattle.laws.proofs.Points.{cut-float, value-neg}
 
 -- ---- a mix by 0
-
-value-neg : (x : Float) (s : Bool) (a c : ℕ) → HasValue x s a c → HasValue (neg x) (not s) a c
-unfolding neg
-value-neg nan s a c v = v
-value-neg (inf t) s a c v = v
-value-neg (fin t m e) s a c v = (ap not (v .0), v .1)
 
 difference : (a b : ℕ) → a ≤ 2 ^ 24 → b ≤ 2 ^ 24 → float b ⊖ float a ≡ sum binary32 false b true a 1
 unfolding sub
@@ -57,9 +51,8 @@ unfolding mul
 product u m e = refl
 
 times-zero : (y : Float) (t : Bool) (k : ℕ) → HasValue y t k 1 → y ⊗ 0·0 ≡ fin (unlike t false) 0 (pos 0)
-times-zero nan t k v = absurd v
-times-zero (inf u) t k v = absurd v
-times-zero (fin u m e) t k v = rw (zero-is, product u m e, v .0, mul-zero (m * up e), mul-one (down e)) (nothing (unlike t false) (down e) (down-pos e))
+times-zero y t k v = by-value (λ y. y ⊗ 0·0 ≡ fin (unlike t false) 0 (pos 0)) y t k 1 v (λ m e q.
+    rw (zero-is, product t m e, mul-zero (m * up e), mul-one (down e)) (nothing (unlike t false) (down e) (down-pos e)))
 
 plus-zero : (a : ℕ) (s : Bool) → a ≤ 2 ^ 24 → float a ⊕ fin s 0 (pos 0) ≡ float a
 unfolding sum ofInt
@@ -80,10 +73,6 @@ none-left n h =
     rw (cut-float n h, difference n n (omega arith) (omega arith)) (simp (le-ltb n n (omega arith), z))
 
 -- ---- whole points
-
-pub model-whole : (l : Layer) (plane x y : ℕ) → x ≤ 4096 → y ≤ 4096 → modelAt l plane (float x) (float y) ≡ texel l plane x y
-unfolding modelAt
-model-whole l plane x y X Y = rw (fraction-float x X, fraction-float y Y, cut-float x X, cut-float y Y)
 
 pub sample-whole : (p : Plane) (x y : ℕ) (size : ℕ × ℕ) → x ≤ 4096 → y ≤ 4096 → ((k : ℕ) → getD (p .bytes) k 0 ≤ 255)
     → sample p (float x) (float y) size ≡ at p x y

@@ -1,31 +1,12 @@
-use std::hint::black_box;
-use std::mem::swap;
-
+use super::masked::Masked;
 use super::scene::{partly_moved, Marked};
 use super::{Sides, Workload};
 use crate::check::apply::Apply as Lent;
 use crate::{ffi, oracle};
 
-pub const WORKLOADS: &[Workload] = &[
-    Workload {
-        call: "apply",
-        name: "a moving scene, step 1",
-        make: |width, height| moving(width, height, 1),
-    },
-    Workload {
-        call: "apply",
-        name: "a moving scene, step 2",
-        make: |width, height| moving(width / 2, height / 2, 2),
-    },
-];
+pub const WORKLOADS: &[Workload] = by_step!("apply", "a moving scene", moving);
 
 pub const STEPS: &[Workload] = at_steps!("apply", marked);
-
-/// What both sides are lent, with our output in it; and the Rust's output.
-struct Apply {
-    lent: Lent,
-    rust: Vec<u8>,
-}
 
 fn moving(width: usize, height: usize, step: usize) -> Box<dyn Sides> {
     let (wide, high) = (width * step, height * step);
@@ -49,7 +30,7 @@ pub fn marked(size: (usize, usize), step: (usize, usize), part: Marked) -> Box<d
 fn applied(width: usize, height: usize, still: Vec<u8>, still_width: usize) -> Box<dyn Sides> {
     let (first, second) = partly_moved(width, height);
     let output = vec![0; first.len()];
-    Box::new(Apply {
+    Box::new(Masked {
         lent: Lent {
             output: output.clone(),
             output_pitch: width,
@@ -63,25 +44,8 @@ fn applied(width: usize, height: usize, still: Vec<u8>, still_width: usize) -> B
             time: 0.4,
         },
         rust: output,
+        output: |lent| &mut lent.output,
+        ours: |lent| lent.put_to(ffi::apply),
+        theirs: |lent| lent.put_to(oracle::still::apply),
     })
-}
-
-impl Sides for Apply {
-    fn pixels(&self) -> usize {
-        self.lent.width * self.lent.height
-    }
-
-    fn ours(&mut self) {
-        black_box(black_box(&mut self.lent).put_to(ffi::apply::call));
-    }
-
-    fn rust(&mut self) {
-        swap(&mut self.lent.output, &mut self.rust);
-        black_box(&mut self.lent).put_to(oracle::still::apply);
-        swap(&mut self.lent.output, &mut self.rust);
-    }
-
-    fn same(&self) -> bool {
-        self.lent.output == self.rust
-    }
 }

@@ -5,11 +5,7 @@ use super::{Sides, Workload};
 use crate::ffi;
 use crate::oracle::layer as rust;
 
-pub const WORKLOADS: &[Workload] = &[Workload {
-    call: "assemble",
-    name: "a logo",
-    make: logo,
-}];
+pub const WORKLOADS: &[Workload] = &[Workload::new("assemble", "a logo", logo)];
 
 type Model = (f32, f32, [f32; 2]);
 
@@ -46,7 +42,7 @@ impl Sides for Assemble {
 
     fn ours(&mut self) {
         let [chroma1, chroma2] = &mut self.chroma;
-        black_box(ffi::assemble::call(
+        black_box(ffi::assemble(
             self.size.0,
             self.size.1,
             RATIO,
@@ -69,7 +65,7 @@ impl Sides for Assemble {
         )));
     }
 
-    fn same(&self) -> bool {
+    fn same(&mut self) -> bool {
         let rust = self.rust.as_ref().expect("the Rust had its turn");
         self.luma == rust.luma && self.chroma == rust.chroma
     }

@@ -4,11 +4,11 @@ use super::scene::Lettering;
 use super::{Sides, Workload};
 use crate::{ffi, oracle};
 
-pub const WORKLOADS: &[Workload] = &[Workload {
-    call: "distances",
-    name: "a sparse cover, per cell",
-    make: sparse,
-}];
+pub const WORKLOADS: &[Workload] = &[Workload::new(
+    "distances",
+    "a sparse cover, per cell",
+    sparse,
+)];
 
 /// The cover is copied in before each turn: distances of distances would be another work.
 struct Distances {
@@ -35,7 +35,7 @@ impl Sides for Distances {
 
     fn ours(&mut self) {
         self.ours.copy_from_slice(&self.cover);
-        black_box(ffi::distances::call(black_box(&mut self.ours), self.width));
+        black_box(ffi::distances(black_box(&mut self.ours), self.width));
     }
 
     fn rust(&mut self) {
@@ -43,7 +43,7 @@ impl Sides for Distances {
         oracle::layer::distances(black_box(&mut self.rust), self.width);
     }
 
-    fn same(&self) -> bool {
+    fn same(&mut self) -> bool {
         self.ours == self.rust
     }
 }

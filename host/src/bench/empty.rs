@@ -4,11 +4,7 @@ use super::scene::{Fitted, Lettering};
 use super::{Sides, Workload};
 use crate::oracle::layer as rust;
 
-pub const WORKLOADS: &[Workload] = &[Workload {
-    call: "empty",
-    name: "no lettering, per cell",
-    make: none,
-}];
+pub const WORKLOADS: &[Workload] = &[Workload::new("empty", "no lettering, per cell", none)];
 
 struct Empty {
     layer: Fitted,
@@ -39,7 +35,7 @@ impl Sides for Empty {
         self.rust = black_box(layer.empty());
     }
 
-    fn same(&self) -> bool {
+    fn same(&mut self) -> bool {
         self.ours == self.rust
     }
 }

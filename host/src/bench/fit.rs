@@ -7,32 +7,24 @@ use crate::ffi;
 use crate::oracle::layer as rust;
 
 pub const WORKLOADS: &[Workload] = &[
-    Workload {
-        call: "fit",
-        name: "three parts of twelve pairs",
-        make: |width, height| made(true, 2.0, false, width, height),
-    },
-    Workload {
-        call: "fit",
-        name: "own part alone",
-        make: |width, height| made(false, 2.0, false, width, height),
-    },
-    Workload {
-        call: "fit",
-        name: "three parts, strict",
-        make: |width, height| made(true, 2.0, true, width, height),
-    },
+    Workload::new("fit", "three parts of twelve pairs", |width, height| {
+        made(true, 2.0, false, width, height)
+    }),
+    Workload::new("fit", "own part alone", |width, height| {
+        made(false, 2.0, false, width, height)
+    }),
+    Workload::new("fit", "three parts, strict", |width, height| {
+        made(true, 2.0, true, width, height)
+    }),
     // No pixel is passed over for want of evidence.
-    Workload {
-        call: "fit",
-        name: "three parts, evidence figure 0",
-        make: |width, height| made(true, 0.0, false, width, height),
-    },
-    Workload {
-        call: "fit",
-        name: "three parts, strict, evidence figure 0",
-        make: |width, height| made(true, 0.0, true, width, height),
-    },
+    Workload::new("fit", "three parts, evidence figure 0", |width, height| {
+        made(true, 0.0, false, width, height)
+    }),
+    Workload::new(
+        "fit",
+        "three parts, strict, evidence figure 0",
+        |width, height| made(true, 0.0, true, width, height),
+    ),
 ];
 
 const PAIRS: usize = 12;
@@ -128,7 +120,7 @@ impl Sides for Fit {
     fn ours(&mut self) {
         let [previous, own, next] = [0, 1, 2].map(|at| lent(black_box(&self.parts[at])));
         let [chroma1, chroma2] = &mut self.chroma;
-        black_box(ffi::fit::call(
+        black_box(ffi::fit(
             previous.0[0],
             previous.0[1],
             previous.0[2],
@@ -168,7 +160,7 @@ impl Sides for Fit {
         ));
     }
 
-    fn same(&self) -> bool {
+    fn same(&mut self) -> bool {
         let rust = self.rust.as_ref().expect("the Rust had its turn");
         self.luma == rust.luma && self.chroma == rust.chroma
     }

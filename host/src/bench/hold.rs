@@ -1,31 +1,12 @@
-use std::hint::black_box;
-use std::mem::swap;
-
+use super::masked::Masked;
 use super::scene::{frame, Marked};
 use super::{Sides, Workload};
 use crate::check::hold::Hold as Lent;
 use crate::{ffi, oracle};
 
-pub const WORKLOADS: &[Workload] = &[
-    Workload {
-        call: "hold",
-        name: "a soft mask, step 1",
-        make: |width, height| soft(width, height, 1),
-    },
-    Workload {
-        call: "hold",
-        name: "a soft mask, step 2",
-        make: |width, height| soft(width / 2, height / 2, 2),
-    },
-];
+pub const WORKLOADS: &[Workload] = by_step!("hold", "a soft mask", soft);
 
 pub const STEPS: &[Workload] = at_steps!("hold", marked);
-
-/// What both sides are lent, with our output in it; and the Rust's output.
-struct Hold {
-    lent: Lent,
-    rust: Vec<u8>,
-}
 
 /// Full on the left, falling towards the right.
 fn soft(width: usize, height: usize, step: usize) -> Box<dyn Sides> {
@@ -42,7 +23,7 @@ pub fn marked(size: (usize, usize), step: (usize, usize), part: Marked) -> Box<d
 
 fn held(width: usize, height: usize, mask: Vec<u8>, mask_width: usize) -> Box<dyn Sides> {
     let output = frame(width, height, 5, 4);
-    Box::new(Hold {
+    Box::new(Masked {
         lent: Lent {
             output: output.clone(),
             output_pitch: width,
@@ -54,25 +35,8 @@ fn held(width: usize, height: usize, mask: Vec<u8>, mask_width: usize) -> Box<dy
             mask_width,
         },
         rust: output,
+        output: |lent| &mut lent.output,
+        ours: |lent| lent.put_to(ffi::hold),
+        theirs: |lent| lent.put_to(oracle::still::hold),
     })
-}
-
-impl Sides for Hold {
-    fn pixels(&self) -> usize {
-        self.lent.width * self.lent.height
-    }
-
-    fn ours(&mut self) {
-        black_box(black_box(&mut self.lent).put_to(ffi::hold::call));
-    }
-
-    fn rust(&mut self) {
-        swap(&mut self.lent.output, &mut self.rust);
-        black_box(&mut self.lent).put_to(oracle::still::hold);
-        swap(&mut self.lent.output, &mut self.rust);
-    }
-
-    fn same(&self) -> bool {
-        self.lent.output == self.rust
-    }
 }

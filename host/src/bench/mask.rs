@@ -4,11 +4,7 @@ use super::scene::partly_moved;
 use super::{Sides, Workload};
 use crate::{ffi, oracle};
 
-pub const WORKLOADS: &[Workload] = &[Workload {
-    call: "mask",
-    name: "a moving scene",
-    make: moving,
-}];
+pub const WORKLOADS: &[Workload] = &[Workload::new("mask", "a moving scene", moving)];
 
 struct Mask {
     first: Vec<u8>,
@@ -38,7 +34,7 @@ impl Sides for Mask {
 
     fn ours(&mut self) {
         let [limit, edge, tolerance] = oracle::still::limits(None, None, None);
-        black_box(ffi::mask::call(
+        black_box(ffi::mask(
             black_box(&self.first),
             black_box(&self.second),
             self.width,
@@ -62,7 +58,7 @@ impl Sides for Mask {
         );
     }
 
-    fn same(&self) -> bool {
+    fn same(&mut self) -> bool {
         self.ours == self.rust
     }
 }

@@ -6,25 +6,9 @@ use crate::groups::Form;
 use crate::oracle::layer as rust;
 use crate::PlaneBuf;
 
-pub const BYTES: &[Workload] = over_layers!(
-    "peel",
-    by_bytes,
-    (Logo, luma),
-    (Logo, chroma),
-    (All, luma),
-    (Opaque, luma)
-);
+pub const BYTES: &[Workload] = over_layers!("peel", by_bytes);
 
-pub const NUMBERS: &[Workload] = over_layers!(
-    "peel_numbers",
-    by_numbers,
-    (Logo, luma),
-    (Logo, chroma),
-    (All, luma),
-    (All, chroma),
-    (Opaque, luma),
-    (Opaque, chroma)
-);
+pub const NUMBERS: &[Workload] = over_layers!("peel_numbers", by_numbers);
 
 /// A layer, one plane of a frame under it, and an output for each side.
 struct Peel {
@@ -58,10 +42,11 @@ impl Sides for Peel {
     fn ours(&mut self) {
         let (plane, raw) = (self.plane, black_box(self.raw.plane()));
         let output = &mut black_box(self.ours.plane_mut());
-        black_box(match self.layer.bytes() {
-            Some(bytes) => Form::peel(&black_box(bytes), plane, output, raw),
-            None => Form::peel(&black_box(self.layer.numbers()), plane, output, raw),
-        });
+        by_form!(
+            self.layer,
+            layer,
+            Form::peel(&black_box(layer), plane, output, raw)
+        );
     }
 
     fn rust(&mut self) {
@@ -73,7 +58,7 @@ impl Sides for Peel {
         layer.peel(self.plane, output.data, output.pitch, raw.into());
     }
 
-    fn same(&self) -> bool {
+    fn same(&mut self) -> bool {
         self.ours == self.rust
     }
 }

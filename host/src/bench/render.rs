@@ -5,15 +5,7 @@ use super::unpeel::Unpeel;
 use super::{Sides, Workload};
 use crate::oracle::layer as rust;
 
-pub const WORKLOADS: &[Workload] = over_layers!(
-    "render",
-    made,
-    (Logo, luma),
-    (Logo, chroma),
-    (All, luma),
-    (All, chroma),
-    (Opaque, luma)
-);
+pub const WORKLOADS: &[Workload] = over_layers!("render", made);
 
 struct Render {
     /// What unpeel is lent as well.
@@ -50,7 +42,7 @@ impl Sides for Render {
         layer.render(lent.plane, data, pitch, &frames.into(), &motion.into(), 0);
     }
 
-    fn same(&self) -> bool {
+    fn same(&mut self) -> bool {
         self.unpeel.same()
     }
 }

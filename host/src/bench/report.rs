@@ -24,6 +24,18 @@ pub fn row(call: &str, workload: &str, size: (usize, usize), measured: &Measured
     )
 }
 
+pub const GROWTH_HEAD: &str = "\
+| Call | Workload | 64 of 512×512, ns per pixel | 4096×4096, ns per pixel | Growth |
+|---|---|---|---|---|
+";
+
+pub fn growth(call: &str, workload: &str, (small, large): (f64, f64)) -> String {
+    format!(
+        "| {call} | {workload} | {small:.2} | {large:.2} | {:.2} |\n",
+        large / small
+    )
+}
+
 /// The heading of a run: its date and the processor.
 pub fn heading() -> String {
     let days = SystemTime::now()
@@ -31,6 +43,10 @@ pub fn heading() -> String {
         .map_or(0, |time| time.as_secs() / 86_400);
     let (year, month, day) = date(days);
     format!("## {year}-{month:02}-{day:02}, {}", processor())
+}
+
+pub fn growth_heading() -> String {
+    heading().replace("## ", "## Growth with size, ")
 }
 
 /// The civil date of a day counted from 1970-01-01.

@@ -6,21 +6,21 @@ use crate::oracle::layer as rust;
 use crate::{groups, Pair, PlaneBuf, Size};
 
 pub const WORKLOADS: &[Workload] = &[
-    Workload {
-        call: "stats",
-        name: "one pair, all planes, no motion",
-        make: |width, height| made(Moves::None, width, height),
-    },
-    Workload {
-        call: "stats",
-        name: "one pair, all planes, smooth motion",
-        make: |width, height| made(Moves::Smooth, width, height),
-    },
-    Workload {
-        call: "stats",
-        name: "one pair, all planes, noisy motion",
-        make: |width, height| made(Moves::Noisy, width, height),
-    },
+    Workload::new(
+        "stats",
+        "one pair, all planes, no motion",
+        |width, height| made(Moves::None, width, height),
+    ),
+    Workload::new(
+        "stats",
+        "one pair, all planes, smooth motion",
+        |width, height| made(Moves::Smooth, width, height),
+    ),
+    Workload::new(
+        "stats",
+        "one pair, all planes, noisy motion",
+        |width, height| made(Moves::Noisy, width, height),
+    ),
 ];
 
 struct Stats {
@@ -89,7 +89,7 @@ impl Sides for Stats {
         self.rust = Some(black_box(rust::stats(&[pair], size, RATIO)));
     }
 
-    fn same(&self) -> bool {
+    fn same(&mut self) -> bool {
         let rust = self.rust.as_ref().expect("the Rust had its turn");
         let chroma = rust.chroma();
         self.luma == rust.luma().as_flattened()

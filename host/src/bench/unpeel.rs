@@ -6,22 +6,9 @@ use crate::groups::Form;
 use crate::oracle::layer as rust;
 use crate::PlaneBuf;
 
-pub const BYTES: &[Workload] = over_layers!(
-    "unpeel",
-    by_bytes,
-    (Logo, luma),
-    (Logo, chroma),
-    (All, luma)
-);
+pub const BYTES: &[Workload] = over_layers!("unpeel", by_bytes);
 
-pub const NUMBERS: &[Workload] = over_layers!(
-    "unpeel_numbers",
-    by_numbers,
-    (Logo, luma),
-    (Logo, chroma),
-    (All, luma),
-    (All, chroma)
-);
+pub const NUMBERS: &[Workload] = over_layers!("unpeel_numbers", by_numbers);
 
 fn by_bytes(layer: Fitted, plane: usize) -> Box<dyn Sides> {
     by_numbers(layer.by_bytes(), plane)
@@ -62,10 +49,11 @@ impl Sides for Unpeel {
     fn ours(&mut self) {
         let (plane, frames) = (self.plane, black_box(self.frames.lent()));
         let output = &mut black_box(self.ours.plane_mut());
-        black_box(match self.layer.bytes() {
-            Some(bytes) => Form::unpeel(&black_box(bytes), plane, output, frames),
-            None => Form::unpeel(&black_box(self.layer.numbers()), plane, output, frames),
-        });
+        by_form!(
+            self.layer,
+            layer,
+            Form::unpeel(&black_box(layer), plane, output, frames)
+        );
     }
 
     fn rust(&mut self) {
@@ -75,7 +63,7 @@ impl Sides for Unpeel {
         layer.unpeel(self.plane, output.data, output.pitch, &frames);
     }
 
-    fn same(&self) -> bool {
+    fn same(&mut self) -> bool {
         self.ours == self.rust
     }
 }

@@ -2,7 +2,7 @@
 
 use std::sync::atomic::{AtomicU32, Ordering};
 
-use safeteal::ffi::scalars;
+use safeteal::ffi;
 
 /// One function of one float, on both sides.
 struct Helper {
@@ -15,22 +15,22 @@ struct Helper {
 const HELPERS: [Helper; 4] = [
     Helper {
         name: "pixel",
-        ours: scalars::pixel,
+        ours: ffi::pixel,
         rust: |value| u64::from(value.round().clamp(0.0, 255.0) as u8),
     },
     Helper {
         name: "cut",
-        ours: scalars::cut,
+        ours: ffi::cut,
         rust: |value| value as usize as u64,
     },
     Helper {
         name: "stored gain",
-        ours: |value| bits(scalars::stored(value, 4096.0)),
+        ours: |value| bits(ffi::stored(value, 4096.0)),
         rust: |value| stored(value, 4096.0),
     },
     Helper {
         name: "stored offset",
-        ours: |value| bits(scalars::stored(value, 64.0)),
+        ours: |value| bits(ffi::stored(value, 64.0)),
         rust: |value| stored(value, 64.0),
     },
 ];

@@ -11,27 +11,9 @@ fn main() {
 
 #[cfg(not(oracle_absent))]
 fn main() -> std::io::Result<()> {
-    use safeteal::check::CALLS;
-
-    const SEED: u64 = 20;
-    const BYTES: usize = 300_000;
     let Some(file) = std::env::args_os().nth(1) else {
         eprintln!("record: name the file to write, as ../crates/replay/data/answers");
         std::process::exit(2);
     };
-    // Thirteen calls, whether they have all landed or not: what is stored of one does not depend on the others.
-    let share = BYTES / 13;
-    let mut made = Vec::new();
-    for call in CALLS {
-        let stored = call.record(SEED, share);
-        eprintln!(
-            "{}: {} cases, {} bytes",
-            call.name,
-            stored.cases,
-            stored.bytes.len()
-        );
-        made.extend(stored.bytes);
-    }
-    eprintln!("{} bytes in all", made.len());
-    std::fs::write(file, made)
+    std::fs::write(file, safeteal::check::answers())
 }

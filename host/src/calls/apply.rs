@@ -1,5 +1,5 @@
 use crate::answer::done;
-use crate::{ffi, Error, Mask, Plane, PlaneMut, Size};
+use crate::{ffi, Mask, Plane, PlaneMut, Result, Size};
 
 /// Mixes two planes of one pitch by time, where more than four tenths of the mask's cells under a pixel stand still.
 ///
@@ -7,8 +7,7 @@ use crate::{ffi, Error, Mask, Plane, PlaneMut, Size};
 /// use safeteal::{apply, Mask, PlaneMut, Size};
 ///
 /// let mut output = [7, 7];
-/// let still = Mask { data: &[1, 0], width: 2 };
-/// let plane = PlaneMut { data: &mut output, pitch: 2 };
+/// let (plane, still) = (PlaneMut::new(&mut output, 2), Mask::new(&[1, 0], 2));
 /// apply(plane, &[10, 10], &[20, 20], 2, Size::new(2, 1), still, 0.5)?;
 /// assert_eq!(output, [15, 7]);
 /// # Ok::<(), safeteal::Error>(())
@@ -25,8 +24,8 @@ pub fn apply(
     size: Size,
     still: Mask<'_>,
     time: f32,
-) -> Result<(), Error> {
-    let word = ffi::apply::call(
+) -> Result<()> {
+    let word = ffi::apply(
         output.data,
         output.pitch,
         first,
@@ -38,12 +37,10 @@ pub fn apply(
         still.width,
         time,
     );
-    let [first, second] = [first, second].map(|data| Plane { data, pitch });
+    let [first, second] = [first, second].map(|data| Plane::new(data, pitch));
     done("apply", word, |search| {
         search
-            .size(size)
-            .mask(still, size)
-            .output(&output, size)
+            .masked(size, still, &output)
             .plane(["pitch", "first"], first, size)
             .plane(["pitch", "second"], second, size)
             .time(time)
@@ -57,14 +54,7 @@ mod tests {
     /// One pixel under a mask of 2 by 2 cells.
     fn mixed(still: [u8; 4]) -> u8 {
         let mut output = [7];
-        let plane = PlaneMut {
-            data: &mut output,
-            pitch: 1,
-        };
-        let mask = Mask {
-            data: &still,
-            width: 2,
-        };
+        let (plane, mask) = (PlaneMut::new(&mut output, 1), Mask::new(&still, 2));
         apply(plane, &[10], &[20], 1, Size::new(1, 1), mask, 0.5).expect("a mask of step 2");
         output[0]
     }

@@ -1,5 +1,5 @@
 use crate::answer::done;
-use crate::{ffi, Error, LayerBuf, LayerMut, Ratio, Size};
+use crate::{ffi, LayerBuf, LayerMut, Ratio, Result, Size};
 
 /// Stores models and a cover as a layer.
 ///
@@ -13,11 +13,11 @@ pub fn assemble(
     ratio: Ratio,
     models: &[f32],
     cover: &[u8],
-    layer: LayerMut<'_>,
-) -> Result<(), Error> {
-    let [chroma1, chroma2] = layer.chroma;
+    mut layer: LayerMut<'_>,
+) -> Result<()> {
+    let [chroma1, chroma2] = &mut layer.chroma;
     let (width, height) = (size.width, size.height);
-    let word = ffi::assemble::call(
+    let word = ffi::assemble(
         width,
         height,
         ratio.number(),
@@ -27,7 +27,7 @@ pub fn assemble(
         chroma1,
         chroma2,
     );
-    let lengths = [layer.luma.len(), chroma1.len(), chroma2.len()];
+    let lengths = layer.lengths();
     done("assemble", word, |search| {
         search
             .size(size)
@@ -53,7 +53,7 @@ impl LayerBuf {
     ///
     /// # Errors
     /// As [`assemble`].
-    pub fn assemble(size: Size, ratio: Ratio, models: &[f32], cover: &[u8]) -> Result<Self, Error> {
+    pub fn assemble(size: Size, ratio: Ratio, models: &[f32], cover: &[u8]) -> Result<Self> {
         let mut made = Self::new(size, ratio)?;
         assemble(size, ratio, models, cover, made.layer_mut())?;
         Ok(made)

@@ -1,5 +1,5 @@
 use crate::answer::done;
-use crate::{ffi, Error};
+use crate::{ffi, Result};
 
 /// Makes distances: in the complete rows of `width` cells, each cell becomes the least of 255 and any cell's number
 /// plus the chessboard distance to it. A tail that fills no row stays.
@@ -15,8 +15,8 @@ use crate::{ffi, Error};
 ///
 /// # Errors
 /// `Refusal::Size` for width 0, and for nothing else.
-pub fn distances(cells: &mut [u8], width: usize) -> Result<(), Error> {
-    let word = ffi::distances::call(cells, width);
+pub fn distances(cells: &mut [u8], width: usize) -> Result<()> {
+    let word = ffi::distances(cells, width);
     done("distances", word, |search| search.width(width))
 }
 

@@ -1,5 +1,5 @@
 use crate::answer::done;
-use crate::{ffi, Error, LayerBuf, LayerMut, Part, Ratio, Refusal, Size, Sums};
+use crate::{groups, Error, LayerBuf, LayerMut, Part, Ratio, Refusal, Result, Size, Sums};
 
 /// What [`fit`] takes for lettering.
 #[derive(Clone, Copy, Debug)]
@@ -47,46 +47,22 @@ const NAMES: [[&str; 3]; 3] = [
 /// `Refusal::Size`, `Refusal::Ratio`, `Refusal::Length`, `Refusal::Setting`, `Refusal::Pairs`,
 /// `Refusal::ChromaTotal`.
 pub fn fit(
-    [previous, own, next]: [Part<'_>; 3],
+    parts: [Part<'_>; 3],
     size: Size,
     ratio: Ratio,
     settings: Settings,
-    work: Work<'_>,
-    layer: LayerMut<'_>,
-) -> Result<(), Error> {
-    let [chroma1, chroma2] = layer.chroma;
-    let word = ffi::fit::call(
-        previous.luma,
-        previous.chroma[0],
-        previous.chroma[1],
-        previous.pairs,
-        own.luma,
-        own.chroma[0],
-        own.chroma[1],
-        own.pairs,
-        next.luma,
-        next.chroma[0],
-        next.chroma[1],
-        next.pairs,
-        size.width,
-        size.height,
-        settings.limit,
-        settings.evidence,
-        settings.strict,
-        ratio.number(),
-        work.models,
-        work.kept,
-        work.cover,
-        layer.luma,
-        chroma1,
-        chroma2,
-    );
-    let lengths = [layer.luma.len(), chroma1.len(), chroma2.len()];
+    mut work: Work<'_>,
+    mut layer: LayerMut<'_>,
+) -> Result<()> {
+    let number = ratio.number();
+    let word = groups::fit(parts, size, settings, number, &mut work, &mut layer);
+    let [previous, own, next] = parts;
+    let lengths = layer.lengths();
     let pixels = || size.width * size.height;
     done("fit", word, |search| {
         search
             .size(size)
-            .ratio(ratio.number(), size)
+            .ratio(number, size)
             .neighbour(NAMES[0], previous, size, ratio)
             .part(NAMES[1], own, size, ratio)
             .neighbour(NAMES[2], next, size, ratio)
@@ -129,10 +105,10 @@ impl LayerBuf {
         own: &Sums,
         next: Option<&Sums>,
         settings: Settings,
-    ) -> Result<Self, Error> {
-        let (size, ratio) = (own.size, own.ratio);
+    ) -> Result<Self> {
+        let (size, ratio) = (own.size(), own.ratio());
         for (name, sums) in [("previous", previous), ("next", next)] {
-            if sums.is_some_and(|sums| (sums.size, sums.ratio) != (size, ratio)) {
+            if sums.is_some_and(|sums| (sums.size(), sums.ratio()) != (size, ratio)) {
                 return Err(Error::of("fit", Refusal::Size, |search| {
                     search.unlike(name)
                 }));

@@ -1,5 +1,5 @@
 use crate::answer::done;
-use crate::{ffi, Error, Mask, Plane, PlaneMut, Size};
+use crate::{ffi, Mask, Plane, PlaneMut, Result, Size};
 
 /// Weighs held bytes into the output: where the mask's bytes under a pixel are not all 255, the rest of their weight
 /// goes to the held byte.
@@ -8,9 +8,8 @@ use crate::{ffi, Error, Mask, Plane, PlaneMut, Size};
 /// use safeteal::{hold, Mask, Plane, PlaneMut, Size};
 ///
 /// let mut output = [100];
-/// let plane = PlaneMut { data: &mut output, pitch: 1 };
-/// let held = Plane { data: &[200], pitch: 1 };
-/// hold(plane, held, Size::new(1, 1), Mask { data: &[128], width: 1 })?;
+/// let (plane, held) = (PlaneMut::new(&mut output, 1), Plane::new(&[200], 1));
+/// hold(plane, held, Size::new(1, 1), Mask::new(&[128], 1))?;
 /// assert_eq!(output, [150]);
 /// # Ok::<(), safeteal::Error>(())
 /// ```
@@ -18,13 +17,8 @@ use crate::{ffi, Error, Mask, Plane, PlaneMut, Size};
 /// # Errors
 /// `Refusal::Size`, `Refusal::Ratio` for a mask without a whole step of 1 to 8, `Refusal::Pitch`,
 /// `Refusal::Length`.
-pub fn hold(
-    output: PlaneMut<'_>,
-    held: Plane<'_>,
-    size: Size,
-    mask: Mask<'_>,
-) -> Result<(), Error> {
-    let word = ffi::hold::call(
+pub fn hold(output: PlaneMut<'_>, held: Plane<'_>, size: Size, mask: Mask<'_>) -> Result<()> {
+    let word = ffi::hold(
         output.data,
         output.pitch,
         held.data,
@@ -36,9 +30,7 @@ pub fn hold(
     );
     done("hold", word, |search| {
         search
-            .size(size)
-            .mask(mask, size)
-            .output(&output, size)
+            .masked(size, mask, &output)
             .plane(["the pitch of held", "held"], held, size)
     })
 }
@@ -50,24 +42,9 @@ mod tests {
 
     fn held(mask: &[u8]) -> Result<u8, Refusal> {
         let mut output = [100];
-        let plane = PlaneMut {
-            data: &mut output,
-            pitch: 1,
-        };
-        let kept = Plane {
-            data: &[200],
-            pitch: 1,
-        };
-        hold(
-            plane,
-            kept,
-            Size::new(1, 1),
-            Mask {
-                data: mask,
-                width: 1,
-            },
-        )
-        .map_err(|error| error.refusal())?;
+        let (plane, kept) = (PlaneMut::new(&mut output, 1), Plane::new(&[200], 1));
+        let answer = hold(plane, kept, Size::new(1, 1), Mask::new(mask, 1));
+        answer.map_err(|error| error.refusal())?;
         Ok(output[0])
     }
 

@@ -1,5 +1,5 @@
 use crate::answer::done;
-use crate::{ffi, Error, Plane, Size};
+use crate::{ffi, Plane, Result, Size};
 
 /// What [`mask`] takes for standing still. Any floats are accepted.
 #[derive(Clone, Copy, Debug)]
@@ -44,17 +44,17 @@ pub fn mask(
     size: Size,
     limits: Limits,
     still: &mut [u8],
-) -> Result<(), Error> {
+) -> Result<()> {
     let (width, height) = (size.width, size.height);
     let Limits {
         limit,
         edge,
         tolerance,
     } = limits;
-    let word = ffi::mask::call(
+    let word = ffi::mask(
         first, second, pitch, width, height, limit, edge, tolerance, still,
     );
-    let [first, second] = [first, second].map(|data| Plane { data, pitch });
+    let [first, second] = [first, second].map(|data| Plane::new(data, pitch));
     done("mask", word, |search| {
         search
             .size(size)

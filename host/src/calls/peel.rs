@@ -1,29 +1,29 @@
-use crate::answer::counted;
-use crate::groups::{Form, LentLayer};
-use crate::{Channel, Error, Layer, LayerBytes, Plane, PlaneMut};
+use crate::answer::written;
+use crate::groups::Form;
+use crate::{Channel, LayerOf, Plane, PlaneMut, Result};
 
-impl Layer<'_> {
+impl<T: Form> LayerOf<'_, T> {
     /// Lifts the lettering off one plane; gives the count of pixels written.
     ///
     /// Written are the pixels in cells at distance 0 or 1 (or below) whose gain and offset are not (1, 0), each with
     /// what was under the lettering in `raw`. All other bytes of `output` stay.
     ///
     /// ```
-    /// use safeteal::{Channel, Layer, Plane, PlaneMut, Ratio, Size};
+    /// use safeteal::{Channel, Layer, LayerBytes, Plane, PlaneMut, Ratio, Size};
     ///
     /// // Gain 2 (8192 / 4096), offset 10 (640 / 64), in a cell at distance 1.
     /// let (luma, chroma) = ([8192, 640], [0, 1]);
-    /// let layer = Layer {
-    ///     luma: &luma,
-    ///     chroma: [&chroma, &chroma],
-    ///     pitch: (1, 1),
-    ///     size: Size::new(1, 1),
-    ///     ratio: Ratio::One,
-    /// };
-    /// let mut output = [0];
-    /// let raw = Plane { data: &[110], pitch: 1 };
-    /// let count = layer.peel(Channel::Luma, PlaneMut { data: &mut output, pitch: 1 }, raw)?;
+    /// let layer = Layer::new(&luma, [&chroma, &chroma], Size::new(1, 1), Ratio::One);
+    /// let (mut output, raw) = ([0], Plane::new(&[110], 1));
+    /// let count = layer.peel(Channel::Luma, PlaneMut::new(&mut output, 1), raw)?;
     /// assert_eq!((count, output), (1, [50]));
+    ///
+    /// // The same layer as bytes: 8192 is 0x2000, 640 is 0x0280.
+    /// let (luma, chroma) = ([0x00, 0x20, 0x80, 0x02], [0, 0, 1, 0]);
+    /// let layer = LayerBytes::new(&luma, [&chroma, &chroma], Size::new(1, 1), Ratio::One);
+    /// let mut output = [0];
+    /// assert_eq!(layer.peel(Channel::Luma, PlaneMut::new(&mut output, 1), raw)?, 1);
+    /// assert_eq!(output, [50]);
     /// # Ok::<(), safeteal::Error>(())
     /// ```
     ///
@@ -39,64 +39,16 @@ impl Layer<'_> {
     ///
     /// # Errors
     /// `Refusal::Size`, `Refusal::Ratio`, `Refusal::Pitch`, `Refusal::Length`.
-    pub fn peel(
-        &self,
-        channel: Channel,
-        output: PlaneMut<'_>,
-        raw: Plane<'_>,
-    ) -> Result<u64, Error> {
-        peel(&self.lent(), channel, output, raw)
+    pub fn peel(&self, channel: Channel, output: PlaneMut<'_>, raw: Plane<'_>) -> Result<u64> {
+        written(
+            "peel",
+            self,
+            channel,
+            output,
+            |layer, plane, output| T::peel(layer, plane, output, raw),
+            |search, size| search.plane(["the pitch of raw", "raw"], raw, size),
+        )
     }
-}
-
-impl LayerBytes<'_> {
-    /// Lifts the lettering off one plane, as [`Layer`](crate::Layer) does; gives the count of pixels written.
-    ///
-    /// ```
-    /// use safeteal::{Channel, LayerBytes, Plane, PlaneMut, Ratio, Size};
-    ///
-    /// // Gain 2 (8192 = 0x2000), offset 10 (640 = 0x0280), distance 1: little-endian.
-    /// let (luma, chroma) = ([0x00, 0x20, 0x80, 0x02], [0, 0, 1, 0]);
-    /// let layer = LayerBytes {
-    ///     luma: &luma,
-    ///     chroma: [&chroma, &chroma],
-    ///     pitch: (1, 1),
-    ///     size: Size::new(1, 1),
-    ///     ratio: Ratio::One,
-    /// };
-    /// let mut output = [0];
-    /// let raw = Plane { data: &[110], pitch: 1 };
-    /// let count = layer.peel(Channel::Luma, PlaneMut { data: &mut output, pitch: 1 }, raw)?;
-    /// assert_eq!((count, output), (1, [50]));
-    /// # Ok::<(), safeteal::Error>(())
-    /// ```
-    ///
-    /// # Errors
-    /// `Refusal::Size`, `Refusal::Ratio`, `Refusal::Pitch`, `Refusal::Length`.
-    pub fn peel(
-        &self,
-        channel: Channel,
-        output: PlaneMut<'_>,
-        raw: Plane<'_>,
-    ) -> Result<u64, Error> {
-        peel(&self.lent(), channel, output, raw)
-    }
-}
-
-fn peel<T: Form>(
-    layer: &LentLayer<'_, T>,
-    channel: Channel,
-    mut output: PlaneMut<'_>,
-    raw: Plane<'_>,
-) -> Result<u64, Error> {
-    let word = T::peel(layer, channel.number(), &mut output, raw);
-    let size = layer.plane(channel);
-    counted("peel", word, |search| {
-        search
-            .layer(layer)
-            .output(&output, size)
-            .plane(["the pitch of raw", "raw"], raw, size)
-    })
 }
 
 #[cfg(test)]
@@ -106,39 +58,16 @@ mod tests {
     use crate::{Ratio, Refusal, Size};
 
     /// The byte and the count of a 1 by 1 peel of raw 110 over a byte of 7.
-    fn over_7(
-        peel: impl FnOnce(PlaneMut<'_>, Plane<'_>) -> Result<u64, Error>,
-    ) -> Result<(u8, u64), Refusal> {
-        let (mut output, data, pitch) = ([7], &[110], 1);
-        let plane = PlaneMut {
-            data: &mut output,
-            pitch,
-        };
-        let count = peel(plane, Plane { data, pitch }).map_err(|error| error.refusal())?;
+    fn over_7<T: Form>(luma: &[T], chroma: &[T]) -> Result<(u8, u64), Refusal> {
+        let layer = LayerOf::new(luma, [chroma, chroma], Size::new(1, 1), Ratio::One);
+        let (mut output, raw) = ([7], Plane::new(&[110], 1));
+        let count = layer.peel(Channel::Luma, PlaneMut::new(&mut output, 1), raw);
+        let count = count.map_err(|error| error.refusal())?;
         Ok((output[0], count))
     }
 
     fn peeled(gain: i16, offset: i16, distance: i16) -> (u8, u64) {
-        let (luma, chroma) = ([gain, offset], [0, distance]);
-        let layer = Layer {
-            luma: &luma,
-            chroma: [&chroma, &chroma],
-            pitch: (1, 1),
-            size: Size::new(1, 1),
-            ratio: Ratio::One,
-        };
-        over_7(|output, raw| layer.peel(Channel::Luma, output, raw)).expect("a layer of 1 by 1")
-    }
-
-    fn peeled_by_bytes(luma: &[u8], chroma: &[u8]) -> Result<(u8, u64), Refusal> {
-        let layer = LayerBytes {
-            luma,
-            chroma: [chroma, chroma],
-            pitch: (1, 1),
-            size: Size::new(1, 1),
-            ratio: Ratio::One,
-        };
-        over_7(|output, raw| layer.peel(Channel::Luma, output, raw))
+        over_7(&[gain, offset], &[0, distance]).expect("a layer of 1 by 1")
     }
 
     /// Two numbers as bytes, and one left over.
@@ -178,22 +107,16 @@ mod tests {
         let mut raw = [0; 16];
         raw[4] = 100;
         let mut output = [0; 16];
-        let plane = PlaneMut {
-            data: &mut output,
-            pitch: 8,
-        };
-        let raw = Plane {
-            data: &raw,
-            pitch: 8,
-        };
-        let count = ONE_OF_GAIN_0.peel(Channel::Luma, plane, raw);
+        let plane = PlaneMut::new(&mut output, 8);
+        let count = ONE_OF_GAIN_0.peel(Channel::Luma, plane, Plane::new(&raw, 8));
         assert_eq!(count, Ok(1));
         assert_eq!(output[0], 40);
     }
+
     #[test]
     fn p10_to_p12_from_bytes() {
         let peeled = |gain: i16, offset: i16, distance: i16| {
-            peeled_by_bytes(&bytes(gain, offset), &bytes(0, distance))
+            over_7(&bytes(gain, offset), &bytes(0, distance))
         };
         assert_eq!(peeled(8192, 640, 1), Ok((50, 1)));
         assert_eq!(peeled(8192, 640, 2), Ok((7, 0)));
@@ -204,6 +127,6 @@ mod tests {
 
     #[test]
     fn three_bytes_are_one_number() {
-        assert_eq!(peeled_by_bytes(&[0, 0, 0], &[0; 4]), Err(Refusal::Length));
+        assert_eq!(over_7(&[0_u8, 0, 0], &[0; 4]), Err(Refusal::Length));
     }
 }

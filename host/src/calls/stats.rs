@@ -1,5 +1,5 @@
 use crate::answer::done;
-use crate::{groups, Channel, Error, Pair, Ratio, Size, Sums};
+use crate::{groups, Channel, Pair, Ratio, Result, Size, Sums};
 
 /// The names of each plane's pitch and slice.
 const FIRST: [[&str; 2]; 3] = [
@@ -28,7 +28,7 @@ pub fn stats(
     size: Size,
     ratio: Ratio,
     pair: &Pair<'_>,
-) -> Result<(), Error> {
+) -> Result<()> {
     let [chroma1, chroma2] = chroma;
     let lengths = [luma.len(), chroma1.len(), chroma2.len()];
     let word = groups::stats(luma, [chroma1, chroma2], pairs, size, ratio.number(), pair);
@@ -70,16 +70,10 @@ impl Sums {
     ///
     /// # Errors
     /// As [`stats`].
-    pub fn add(&mut self, pair: &Pair<'_>) -> Result<(), Error> {
-        let [first, second] = &mut self.chroma;
-        stats(
-            &mut self.luma,
-            [first, second],
-            self.pairs,
-            self.size,
-            self.ratio,
-            pair,
-        )?;
+    pub fn add(&mut self, pair: &Pair<'_>) -> Result<()> {
+        let (size, ratio) = (self.size(), self.ratio());
+        let (luma, chroma) = self.numbers.slices_mut();
+        stats(luma, chroma, self.pairs, size, ratio, pair)?;
         self.pairs += 1;
         Ok(())
     }

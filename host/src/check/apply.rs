@@ -1,10 +1,7 @@
 use super::case::Case;
-use super::expected::{
-    plane_bytes, whole_mask, wrong_pitch, wrong_size, wrong_step, wrong_time, Length,
-};
 use super::inputs::{near, pitch, plane, plane_sizes, step, time};
+use super::masked::Masked;
 use super::rng::Rng;
-use crate::{ffi, oracle};
 
 lent! {
     pub struct Apply {
@@ -22,6 +19,15 @@ lent! {
 }
 
 impl Apply {
+    fn masked(&self) -> Masked<3> {
+        Masked {
+            pitches: [self.output_pitch, self.pitch, self.pitch],
+            mask: (self.still_width, self.still.len()),
+            size: (self.width, self.height),
+            time: self.time,
+        }
+    }
+
     /// Puts it to either side: both take the same arguments.
     pub fn put_to<R>(
         &mut self,
@@ -70,43 +76,7 @@ impl Case for Apply {
         }
     }
 
-    fn tidy(&mut self) {
-        self.still_width = whole_mask(self.still_width, self.width, self.height).0;
-    }
-
-    fn lengths(&self) -> Vec<Length> {
-        let plane = plane_bytes(self.pitch, self.width, self.height);
-        let output = plane_bytes(self.output_pitch, self.width, self.height);
-        // A mask of a wrong length is row 2's, never row 4's.
-        let mask = whole_mask(self.still_width, self.width, self.height).1;
-        vec![output, plane, plane, mask]
-    }
-
-    fn ours(&mut self) -> u64 {
-        self.put_to(ffi::apply::call)
-    }
-
-    fn refusal(&self) -> u64 {
-        if wrong_size(self.width, self.height) {
-            1
-        } else if wrong_step(self.still_width, self.still.len(), self.width, self.height) {
-            2
-        } else if wrong_pitch(self.output_pitch, self.width) || wrong_pitch(self.pitch, self.width)
-        {
-            3
-        } else if self.misfits() {
-            4
-        } else if wrong_time(self.time) {
-            6
-        } else {
-            0
-        }
-    }
-
-    fn rust(&mut self) -> u64 {
-        self.put_to(oracle::still::apply);
-        0
-    }
+    masked!(apply, still_width);
 }
 
 /// What `mask` makes, thinner or denser; any bytes now and then.

@@ -47,7 +47,7 @@ impl Case for Assemble {
     }
 
     fn ours(&mut self) -> u64 {
-        ffi::assemble::call(
+        ffi::assemble(
             self.width,
             self.height,
             self.ratio,

@@ -8,7 +8,7 @@ use super::rng::Rng;
 
 /// An input of a call.
 pub trait Case: Lent + Clone + 'static {
-    /// The call's name: the C function is `safeteal_NAME`, the wrapper `ffi::NAME::call`.
+    /// The call's name: the C function is `safeteal_NAME`, the safe one `ffi::NAME`.
     const NAME: &'static str;
     /// The numbers that the call can answer: a long run has to meet each of them.
     const NUMBERS: &'static [usize];

@@ -38,7 +38,7 @@ impl Case for Distances {
     }
 
     fn ours(&mut self) -> u64 {
-        ffi::distances::call(&mut self.cells, self.width)
+        ffi::distances(&mut self.cells, self.width)
     }
 
     fn refusal(&self) -> u64 {

@@ -47,23 +47,6 @@ pub fn wrong_ratio(ratio: usize, width: usize, height: usize) -> bool {
     ![1, 2, 4].contains(&ratio) || width % ratio != 0 || height % ratio != 0
 }
 
-/// Row 2: "a mask width or mask length with no whole step of 1..8".
-pub fn wrong_step(mask_width: usize, mask_length: usize, width: usize, height: usize) -> bool {
-    let step = |whole: u128, of: u128| (1..=8).any(|step| whole == step * of);
-    !step(mask_width as u128, width as u128)
-        || !step(mask_length as u128, mask_width as u128 * height as u128)
-}
-
-/// The mask width of the next whole step below, and the mask length that goes with it.
-pub fn whole_mask(mask_width: usize, width: usize, height: usize) -> (usize, Length) {
-    let step = (mask_width / width.max(1)).clamp(1, 8);
-    let mask_width = step.saturating_mul(width);
-    (
-        mask_width,
-        Length::Usually(times(mask_width as u128, height)),
-    )
-}
-
 /// Row 3: "pitches from the row's width to 65,536".
 pub fn wrong_pitch(pitch: usize, row: usize) -> bool {
     pitch < row || pitch > 65_536
@@ -113,7 +96,7 @@ pub fn cover_bytes(width: usize, height: usize) -> Length {
     exactly(1, width.div_ceil(8), height.div_ceil(8))
 }
 
-fn times(a: u128, b: usize) -> u128 {
+pub fn times(a: u128, b: usize) -> u128 {
     a.saturating_mul(b as u128)
 }
 

@@ -5,8 +5,8 @@ use super::expected::{
 use super::inputs::{bytes, sizes};
 use super::motion::Motion;
 use super::rng::Rng;
-use crate::ffi;
 use crate::oracle::layer as rust;
+use crate::{groups, LayerMut, Settings, Size, Work};
 
 lent! {
     /// The sums of some pairs; with 0 pairs they are not looked at.
@@ -50,6 +50,14 @@ impl Part {
             chroma1: any(),
             chroma2: any(),
             pairs: 0,
+        }
+    }
+
+    fn lent(&self) -> crate::Part<'_> {
+        crate::Part {
+            luma: &self.luma,
+            chroma: [&self.chroma1, &self.chroma2],
+            pairs: self.pairs,
         }
     }
 
@@ -98,6 +106,26 @@ impl Fit {
             chroma1: vec![garbage; half],
             chroma2: vec![garbage; half],
         }
+    }
+
+    /// The parts, the settings, and the slices that are written.
+    pub fn lent(&mut self) -> ([crate::Part<'_>; 3], Settings, Work<'_>, LayerMut<'_>) {
+        let parts = [&self.previous, &self.own, &self.next].map(Part::lent);
+        let settings = Settings {
+            limit: self.limit,
+            evidence: self.evidence,
+            strict: self.strict,
+        };
+        let work = Work {
+            models: &mut self.models,
+            kept: &mut self.kept,
+            cover: &mut self.cover,
+        };
+        let layer = LayerMut {
+            luma: &mut self.luma,
+            chroma: [&mut self.chroma1, &mut self.chroma2],
+        };
+        (parts, settings, work, layer)
     }
 
     /// The chroma offsets of all kept pixels, plane by plane: the steps of `fit` up to `assemble`, with the Rust's own
@@ -177,32 +205,9 @@ impl Case for Fit {
     }
 
     fn ours(&mut self) -> u64 {
-        ffi::fit::call(
-            &self.previous.luma,
-            &self.previous.chroma1,
-            &self.previous.chroma2,
-            self.previous.pairs,
-            &self.own.luma,
-            &self.own.chroma1,
-            &self.own.chroma2,
-            self.own.pairs,
-            &self.next.luma,
-            &self.next.chroma1,
-            &self.next.chroma2,
-            self.next.pairs,
-            self.width,
-            self.height,
-            self.limit,
-            self.evidence,
-            self.strict,
-            self.ratio,
-            &mut self.models,
-            &mut self.kept,
-            &mut self.cover,
-            &mut self.luma,
-            &mut self.chroma1,
-            &mut self.chroma2,
-        )
+        let (size, ratio) = (Size::new(self.width, self.height), self.ratio);
+        let (parts, settings, mut work, mut layer) = self.lent();
+        groups::fit(parts, size, settings, ratio, &mut work, &mut layer)
     }
 
     fn refusal(&self) -> u64 {

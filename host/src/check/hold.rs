@@ -1,8 +1,7 @@
 use super::case::Case;
-use super::expected::{plane_bytes, whole_mask, wrong_pitch, wrong_size, wrong_step, Length};
 use super::inputs::{bytes, pitch, plane, plane_sizes, step};
+use super::masked::Masked;
 use super::rng::Rng;
-use crate::{ffi, oracle};
 
 lent! {
     pub struct Hold {
@@ -18,6 +17,15 @@ lent! {
 }
 
 impl Hold {
+    fn masked(&self) -> Masked<2> {
+        Masked {
+            pitches: [self.output_pitch, self.held_pitch],
+            mask: (self.mask_width, self.mask.len()),
+            size: (self.width, self.height),
+            time: 0.0,
+        }
+    }
+
     /// Puts it to either side: both take the same arguments.
     pub fn put_to<R>(
         &mut self,
@@ -58,42 +66,7 @@ impl Case for Hold {
         }
     }
 
-    fn tidy(&mut self) {
-        self.mask_width = whole_mask(self.mask_width, self.width, self.height).0;
-    }
-
-    fn lengths(&self) -> Vec<Length> {
-        let output = plane_bytes(self.output_pitch, self.width, self.height);
-        let held = plane_bytes(self.held_pitch, self.width, self.height);
-        // A mask of a wrong length is row 2's, never row 4's.
-        let mask = whole_mask(self.mask_width, self.width, self.height).1;
-        vec![output, held, mask]
-    }
-
-    fn ours(&mut self) -> u64 {
-        self.put_to(ffi::hold::call)
-    }
-
-    fn refusal(&self) -> u64 {
-        if wrong_size(self.width, self.height) {
-            1
-        } else if wrong_step(self.mask_width, self.mask.len(), self.width, self.height) {
-            2
-        } else if wrong_pitch(self.output_pitch, self.width)
-            || wrong_pitch(self.held_pitch, self.width)
-        {
-            3
-        } else if self.misfits() {
-            4
-        } else {
-            0
-        }
-    }
-
-    fn rust(&mut self) -> u64 {
-        self.put_to(oracle::still::hold);
-        0
-    }
+    masked!(hold, mask_width);
 }
 
 /// Weights with many full ones, or any bytes.

@@ -47,7 +47,7 @@ impl Case for Mask {
     }
 
     fn ours(&mut self) -> u64 {
-        ffi::mask::call(
+        ffi::mask(
             &self.first,
             &self.second,
             self.pitch,

@@ -20,14 +20,8 @@ lent! {
 
 impl<T: Number> Peel<T> {
     pub fn lent(&mut self) -> (LentLayer<'_, T>, PlaneMut<'_>, Plane<'_>) {
-        let output = PlaneMut {
-            data: &mut self.output,
-            pitch: self.output_pitch,
-        };
-        let raw = Plane {
-            data: &self.raw,
-            pitch: self.raw_pitch,
-        };
+        let output = PlaneMut::new(&mut self.output, self.output_pitch);
+        let raw = Plane::new(&self.raw, self.raw_pitch);
         (self.layer.lent(), output, raw)
     }
 }

@@ -16,14 +16,28 @@ pub fn test<C: Case>(case: &C) -> String {
         text,
         "    assert_eq!(answer, {answer}); // {count} * 256 + {number}"
     );
-    for argument in arguments(&mut after) {
-        let name = argument.full_name();
-        let compared = C::WRITTEN.contains(&name.as_str()) && !free.contains(&name.as_str());
-        if compared {
-            let _ = writeln!(text, "    assert_eq!({name}, {});", value(&argument));
-        }
+    let compared = |argument: &Argument| {
+        let is = |name: &&str| argument.is(name);
+        C::WRITTEN.iter().any(is) && !free.iter().any(is)
+    };
+    let any_nan = C::ANY_NAN && number == 0;
+    for argument in arguments(&mut after).into_iter().filter(compared) {
+        text += &assertion(&argument, any_nan);
     }
     text + "}\n"
+}
+
+/// The line that asks for an argument as it is here: floats by their bits, any NaN for any other where that will do.
+fn assertion(argument: &Argument, any_nan: bool) -> String {
+    let (name, value) = (argument.full_name(), value(argument));
+    let bits = match argument.value {
+        Value::Floats(_) if any_nan => {
+            ".map(|x: f32| if x.is_nan() { u32::MAX } else { x.to_bits() })"
+        }
+        Value::Floats(_) => ".map(f32::to_bits)",
+        _ => "",
+    };
+    format!("    assert_eq!({name}{bits}, {value}{bits});\n")
 }
 
 /// The test's text up to the call.
@@ -43,7 +57,7 @@ pub fn call<C: Case>(case: &C) -> String {
     }
     let _ = writeln!(
         text,
-        "    let answer = safeteal::ffi::{}::call(\n{call}    );",
+        "    let answer = safeteal::ffi::{}(\n{call}    );",
         C::NAME
     );
     text
@@ -73,15 +87,13 @@ fn float(value: f32) -> String {
     }
 }
 
-fn list<T: PartialEq>(slice: &[T], kind: &str, write: impl Fn(&T) -> String) -> String {
-    match slice {
+fn list<T>(slice: &[T], kind: &str, write: impl Fn(&T) -> String) -> String {
+    let written: Vec<String> = slice.iter().map(write).collect();
+    match written.as_slice() {
         [] => format!("[0 as {kind}; 0]"),
-        [first, rest @ ..] if rest.len() > 3 && rest.iter().all(|element| element == first) => {
-            format!("[{}; {}]", write(first), slice.len())
+        [first, rest @ ..] if rest.len() > 3 && rest.iter().all(|other| other == first) => {
+            format!("[{first}; {}]", written.len())
         }
-        _ => format!(
-            "[{}]",
-            slice.iter().map(write).collect::<Vec<_>>().join(", ")
-        ),
+        _ => format!("[{}]", written.join(", ")),
     }
 }

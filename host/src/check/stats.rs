@@ -51,10 +51,7 @@ impl Plane {
     }
 
     fn lent(&self) -> crate::Plane<'_> {
-        crate::Plane {
-            data: &self.data,
-            pitch: self.pitch,
-        }
+        crate::Plane::new(&self.data, self.pitch)
     }
 }
 

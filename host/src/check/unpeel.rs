@@ -60,14 +60,10 @@ impl<T: Number> Unpeel<T> {
     }
 
     pub fn lent(&mut self) -> (LentLayer<'_, T>, PlaneMut<'_>, Frames<'_>) {
-        let output = PlaneMut {
-            data: &mut self.output,
-            pitch: self.output_pitch,
-        };
-        let plane = |data, pitch| Plane { data, pitch };
+        let output = PlaneMut::new(&mut self.output, self.output_pitch);
         let frames = Frames {
-            first: plane(&self.first, self.first_pitch),
-            second: plane(&self.second, self.second_pitch),
+            first: Plane::new(&self.first, self.first_pitch),
+            second: Plane::new(&self.second, self.second_pitch),
             time: self.time,
         };
         (self.layer.lent(), output, frames)

@@ -94,11 +94,13 @@ impl Search {
 
     /// The plane that is written.
     pub fn output(self, output: &PlaneMut<'_>, size: Size) -> Self {
-        let plane = Plane {
-            data: output.data,
-            pitch: output.pitch,
-        };
+        let plane = Plane::new(output.data, output.pitch);
         self.plane(["the pitch of output", "output"], plane, size)
+    }
+
+    /// What apply and hold have in common.
+    pub fn masked(self, size: Size, mask: Mask<'_>, output: &PlaneMut<'_>) -> Self {
+        self.size(size).mask(mask, size).output(output, size)
     }
 
     /// The planes of two frames and the time.

@@ -7,20 +7,8 @@ use borrow.Author.Needs.{needs}
 use Rattle.apply.proofs.apply.Statement.{statement}
 use Rattle.apply.proofs.apply.Tie as tie
 
-apply-refusal-requires : tie.Need-apply-refusal-requires
-apply-refusal-requires c κs = search needs
-
-same-length : tie.Need-same-length
-same-length c = search needs
-
 returns : tie.Need-returns
 returns c = refused _ _ _ _ (c .before .apply-refusal .ensures) (c .if1 .taken)
-
-divided-requires : tie.Need-divided-requires
-divided-requires c κs = search needs
-
-step-down-requires : tie.Need-step-down-requires
-step-down-requires c κs = search needs
 
 apply-steps-requires : tie.Need-apply-steps-requires
 apply-steps-requires c κs =
@@ -28,9 +16,6 @@ apply-steps-requires c κs =
     let a = tested .before .before .before .before .before .before .before .args in
     rw (c .before .step-down .ensures, c .before .before .divided .ensures)
     (runs (a .output .now) (a .output-pitch) (framesOf (a .first .now) (a .second .now) (a .pitch) (a .time)) (a .width) (a .height) (a .still .now) (a .still-width) (sym (tested .before .apply-refusal .ensures) ∙ tested .if1 .left))
-
-same-length-2 : tie.Need-same-length-2
-same-length-2 c = search needs
 
 returns-2 : tie.Need-returns-2
 returns-2 c =
@@ -45,12 +30,5 @@ returns-2 c =
 pub apply-spec : {M : Type 1} → statement M
 apply-spec =
     tie.close
-    (tie.spec
-    apply-refusal-requires
-    same-length
-    returns
-    divided-requires
-    step-down-requires
-    apply-steps-requires
-    same-length-2
-    returns-2)
+    (tie.spec (λ c κs. search needs) (λ c. search needs) returns (λ c κs. search needs) (λ c κs. search needs)
+    apply-steps-requires (λ c. search needs) returns-2)

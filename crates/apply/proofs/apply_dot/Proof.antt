@@ -15,19 +15,10 @@ stays true true e = sym e
 stays true false e = refl
 stays false mixed e = absurd (false≢true e)
 
-byte-sum-requires : tie.Need-byte-sum-requires
-byte-sum-requires c κs = search needs
-
-cell-count-requires : tie.Need-cell-count-requires
-cell-count-requires c κs = search needs
-
 mixes-requires : tie.Need-mixes-requires
 mixes-requires c κs =
     let m = cells-most _ _ (c .before .before .before .before .before .pre .2 .small) in
     (omega (arith, c .before .byte-sum .ensures .few), omega (arith, c .cell-count .ensures))
-
-both-requires : tie.Need-both-requires
-both-requires c κs = search needs
 
 returns : tie.Need-returns
 unfolding put ruleBy
@@ -35,30 +26,6 @@ returns c =
     let m = c .before .before in
     let no = stays (m .before .before .before .before .before .before .args .skip) (m .mixes .result) (sym (c .before .both .ensures) ∙ c .if1 .taken) in
     sym (simp (rw (m .mixes .ensures, m .before .cell-count .ensures, m .before .before .byte-sum .ensures .sum) at no))
-
-place-requires : tie.Need-place-requires
-place-requires c κs = search needs
-
-shared-slice-read-of-byte : tie.Need-shared-slice-read-of-byte
-shared-slice-read-of-byte c = search needs
-
-of-byte-requires : tie.Need-of-byte-requires
-of-byte-requires c κs = search needs
-
-shared-slice-read-of-byte-2 : tie.Need-shared-slice-read-of-byte-2
-shared-slice-read-of-byte-2 c = search needs
-
-of-byte-requires-2 : tie.Need-of-byte-requires-2
-of-byte-requires-2 c κs = search needs
-
-mix-requires : tie.Need-mix-requires
-mix-requires c κs = search needs
-
-pixel-requires : tie.Need-pixel-requires
-pixel-requires c κs = search needs
-
-chosen-requires : tie.Need-chosen-requires
-chosen-requires c κs = search needs
 
 returns-2 : tie.Need-returns-2
 unfolding put ruleBy
@@ -80,18 +47,6 @@ returns-2 c =
 pub apply-dot-spec : {M : Type 1} → statement M
 apply-dot-spec =
     tie.close
-    (tie.spec
-    byte-sum-requires
-    cell-count-requires
-    mixes-requires
-    both-requires
-    returns
-    place-requires
-    shared-slice-read-of-byte
-    of-byte-requires
-    shared-slice-read-of-byte-2
-    of-byte-requires-2
-    mix-requires
-    pixel-requires
-    chosen-requires
-    returns-2)
+    (tie.spec (λ c κs. search needs) (λ c κs. search needs) mixes-requires (λ c κs. search needs) returns
+    (λ c κs. search needs) (λ c. search needs) (λ c κs. search needs) (λ c. search needs)
+    (λ c κs. search needs) (λ c κs. search needs) (λ c κs. search needs) (λ c κs. search needs) returns-2)

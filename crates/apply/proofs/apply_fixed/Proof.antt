@@ -15,9 +15,6 @@ apply-rows-requires c κs =
     let f = c .before .before .before .before .before .pre in
     (f .0, f .1, f .2, rw (e .0, e .1) at (f .3))
 
-same-length : tie.Need-same-length
-same-length c = search needs
-
 returns : tie.Need-returns
 returns c =
     let d = c .before .before in
@@ -25,4 +22,4 @@ returns c =
     rw (e .0, e .1) (d .apply-rows .ensures)
 
 pub apply-fixed-spec : {M : Type 1} → statement M
-apply-fixed-spec = tie.close (tie.spec apply-rows-requires same-length returns)
+apply-fixed-spec = tie.close (tie.spec apply-rows-requires (λ c. search needs) returns)

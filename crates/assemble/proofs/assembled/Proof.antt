@@ -3,22 +3,10 @@ use borrow.Author.Needs.{needs}
 use Rattle.assemble.proofs.assembled.Statement.{statement}
 use Rattle.assemble.proofs.assembled.Tie as tie
 
-totals-fit-requires : tie.Need-totals-fit-requires
-totals-fit-requires c κs = search needs
-
 store-requires : tie.Need-store-requires
 store-requires c κs =
     let s = c .before .before .before .before .before .before .before in
     (record { formed = s .pre .0; models-long = s .pre .1; cover-long = s .pre .2; fits = sym (c .before .before .before .before .totals-fit .ensures) ∙ c .before .before .before .if1 .taken }, s .pre .3)
-
-same-length : tie.Need-same-length
-same-length c = search needs
-
-same-length-2 : tie.Need-same-length-2
-same-length-2 c = search needs
-
-same-length-3 : tie.Need-same-length-3
-same-length-3 c = search needs
 
 returns : tie.Need-returns
 returns c =
@@ -32,11 +20,5 @@ returns-2 c =
 pub assembled-spec : {M : Type 1} → statement M
 assembled-spec =
     tie.close
-    (tie.spec
-    totals-fit-requires
-    store-requires
-    same-length
-    same-length-2
-    same-length-3
-    returns
-    returns-2)
+    (tie.spec (λ c κs. search needs) store-requires (λ c. search needs) (λ c. search needs)
+    (λ c. search needs) returns returns-2)

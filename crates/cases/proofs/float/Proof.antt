@@ -9,20 +9,11 @@ use lib.Ieee.Bits.{nanBits-above}
 use Rattle.cases.proofs.float.Statement.{statement}
 use Rattle.cases.proofs.float.Tie as tie
 
-long-requires : tie.Need-long-requires
-long-requires c κs = search needs
-
-cast-bits : tie.Need-cast-bits
-cast-bits c = search needs
-
-returns : tie.Need-returns
-returns c = search needs
-
 float-from-bits-result : tie.Need-float-from-bits-result
 float-from-bits-result c = subst (λ (b : Bool). T (not b)) (sym (nanBits-above binary32 (c .before .long .result) ∙ le-ltb _ _ (c .if1 .left))) tt
 
-returns-2 : tie.Need-returns-2
-returns-2 c = search needs
-
 pub float-spec : {M : Type 1} → statement M
-float-spec = tie.close (tie.spec long-requires cast-bits returns float-from-bits-result returns-2)
+float-spec =
+    tie.close
+    (tie.spec (λ c κs. search needs) (λ c. search needs) (λ c. search needs) float-from-bits-result
+    (λ c. search needs))

@@ -3,32 +3,15 @@ use Prim.Native.Nat.{_-_}
 use native.Mathlib.Omega.{arith}
 use borrow.Author.Needs.{needs}
 use mir.Syntax.{w32}
-use Rattle.cases.proofs.Minus.{minus-fits}
+use Rattle.laws.proofs.Signed.{minus-fits}
 use Rattle.cases.proofs.int.Statement.{statement}
 use Rattle.cases.proofs.int.Tie as tie
-
-long-requires : tie.Need-long-requires
-long-requires c κs = search needs
-
-cast-result : tie.Need-cast-result
-cast-result c = search needs
-
-returns : tie.Need-returns
-returns c = search needs
-
-sub-result : tie.Need-sub-result
-sub-result c = search needs
-
-cast-result-2 : tie.Need-cast-result-2
-cast-result-2 c = search needs
 
 sub-result-2 : tie.Need-sub-result-2
 sub-result-2 c = minus-fits w32 (0xffff_ffff - c .before .long .result) (omega arith)
 
-returns-2 : tie.Need-returns-2
-returns-2 c = search needs
-
 pub int-spec : {M : Type 1} → statement M
 int-spec =
     tie.close
-    (tie.spec long-requires cast-result returns sub-result cast-result-2 sub-result-2 returns-2)
+    (tie.spec (λ c κs. search needs) (λ c. search needs) (λ c. search needs) (λ c. search needs)
+    (λ c. search needs) sub-result-2 (λ c. search needs))

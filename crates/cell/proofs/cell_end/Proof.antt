@@ -7,9 +7,6 @@ use borrow.Author.Needs.{needs}
 use Rattle.cell.proofs.cell_end.Statement.{statement}
 use Rattle.cell.proofs.cell_end.Tie as tie
 
-cell-of-requires : tie.Need-cell-of-requires
-cell-of-requires c κs = search needs
-
 place-requires : tie.Need-place-requires
 place-requires c κs = omega (arith, c .cell-of .ensures, div-le-self (c .before .args .k) (c .before .args .side))
 
@@ -31,4 +28,4 @@ returns-2 c =
     cell-end (a .k) (a .side) (a .size) (a .size) some (h .3) (omega arith) (omega arith) (h .3)
 
 pub cell-end-spec : {M : Type 1} → statement M
-cell-end-spec = tie.close (tie.spec cell-of-requires place-requires returns returns-2)
+cell-end-spec = tie.close (tie.spec (λ c κs. search needs) place-requires returns returns-2)

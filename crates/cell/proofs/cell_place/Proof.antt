@@ -3,7 +3,8 @@ use Prim.Native.Nat.{_<_, _≤_}
 use native.Mathlib.Nat.{lt-of-lt-of-le}
 use native.Mathlib.Omega.{arith}
 use lib.Dec.{eqb}
-use Rattle.cell.proofs.Ends.{cell-in, second-in}
+use Rattle.cell.proofs.Ends.{cell-in}
+use Rattle.laws.proofs.Lists.{second-in}
 use Rattle.cell.proofs.cell_place.Statement.{statement}
 use Rattle.cell.proofs.cell_place.Tie as tie
 
@@ -54,5 +55,4 @@ returns c =
     }
 
 pub cell-place-spec : {M : Type 1} → statement M
-cell-place-spec =
-    tie.close (tie.spec cell-of-requires cell-of-requires-2 add-place place-requires returns)
+cell-place-spec = tie.close (tie.spec cell-of-requires cell-of-requires-2 add-place place-requires returns)

@@ -7,9 +7,6 @@ use borrow.Author.Needs.{needs}
 use Rattle.cell.proofs.distance.Statement.{statement}
 use Rattle.cell.proofs.distance.Tie as tie
 
-cell-place-requires : tie.Need-cell-place-requires
-cell-place-requires c κs = search needs
-
 entry-requires : tie.Need-entry-requires
 entry-requires c κs = omega (arith, c .cell-place .ensures .inside, c .before .before .pre .2)
 
@@ -21,4 +18,4 @@ returns c =
     ∙ rw (c .before .cell-place .ensures .is, c .before .before .before .pre .0 .is)
 
 pub distance-spec : {M : Type 1} → statement M
-distance-spec = tie.close (tie.spec cell-place-requires entry-requires returns)
+distance-spec = tie.close (tie.spec (λ c κs. search needs) entry-requires returns)

@@ -16,15 +16,6 @@ unfolding turns sumFrom rowSum
 row-run bytes row width x across zero total = refl
 row-run bytes row width x across (suc n) total = rw (row-run bytes row width x across n total, add-assoc (row * width) (x * across) n)
 
-mul-place : tie.Need-mul-place
-mul-place c = search needs
-
-place-requires : tie.Need-place-requires
-place-requires c κs = search needs
-
-run-requires : tie.Need-run-requires
-run-requires c κs = search needs
-
 returns : tie.Need-returns
 returns c =
     let a = c .before .before .before .args in
@@ -34,4 +25,4 @@ returns c =
     }
 
 pub byte-row-spec : {M : Type 1} → statement M
-byte-row-spec = tie.close (tie.spec mul-place place-requires run-requires returns)
+byte-row-spec = tie.close (tie.spec (λ c. search needs) (λ c κs. search needs) (λ c κs. search needs) returns)

@@ -22,20 +22,11 @@ loop-holds : tie.Need-loop-holds Inv-loop μ-loop
 unfolding turns sumOf
 loop-holds c = (refl, omega arith, omega arith)
 
-place-requires : tie.Need-place-requires Inv-loop μ-loop
-place-requires c κs = search needs
-
 byte-row-requires : tie.Need-byte-row-requires Inv-loop μ-loop
 byte-row-requires c κs =
     let l = c .before .before in
     let a = l .before .before .args in
     rw (c .place .ensures) (row-fits _ _ _ _ (a .x) (a .y) (l .loop .dy) _ (l .before .before .pre) (c .before .loop-test .taken) (l .loop .inv .2))
-
-add-dy : tie.Need-add-dy Inv-loop μ-loop
-add-dy c = search needs
-
-loop-less : tie.Need-loop-less Inv-loop μ-loop
-loop-less c = search needs
 
 loop-again : tie.Need-loop-again Inv-loop μ-loop
 unfolding turns sumOf
@@ -54,13 +45,5 @@ returns c =
 pub byte-sum-spec : {M : Type 1} → statement M
 byte-sum-spec =
     tie.close
-    (tie.spec
-    Inv-loop
-    μ-loop
-    loop-holds
-    place-requires
-    byte-row-requires
-    add-dy
-    loop-less
-    loop-again
-    returns)
+    (tie.spec Inv-loop μ-loop loop-holds (λ c κs. search needs) byte-row-requires (λ c. search needs)
+    (λ c. search needs) loop-again returns)

@@ -11,8 +11,5 @@ mul-result c = omega (arith, cells-most _ _ (c .pre))
 cast-result : tie.Need-cast-result
 cast-result c = omega (arith, cells-most _ _ (c .pre))
 
-returns : tie.Need-returns
-returns c = search needs
-
 pub cell-count-spec : {M : Type 1} → statement M
-cell-count-spec = tie.close (tie.spec mul-result cast-result returns)
+cell-count-spec = tie.close (tie.spec mul-result cast-result (λ c. search needs))

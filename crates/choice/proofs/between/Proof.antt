@@ -6,36 +6,12 @@ use borrow.Author.Needs.{needs}
 use Rattle.choice.proofs.between.Statement.{statement}
 use Rattle.choice.proofs.between.Tie as tie
 
-alike-requires : tie.Need-alike-requires
-alike-requires c κs = search needs
-
-chosen-requires : tie.Need-chosen-requires
-chosen-requires c κs = search needs
-
 returns : tie.Need-returns
 unfolding betweenOf
 returns c =
     let s = c .before .before .before in
     let t = rw (c .before .before .alike .ensures) at (c .before .if1 .taken) in
     rw (c .chosen .ensures, toZ-ofZ (s .fits .algo), alike-is (s .args .first) (s .args .second) _ t, alike-is (s .args .second) (s .args .first) _ (alike-back (s .args .first .on) (s .args .second .on) t))
-
-value-requires : tie.Need-value-requires
-value-requires c κs = search needs
-
-value-requires-2 : tie.Need-value-requires-2
-value-requires-2 c κs = search needs
-
-abs-requires : tie.Need-abs-requires
-abs-requires c κs = search needs
-
-exchanged-requires : tie.Need-exchanged-requires
-exchanged-requires c κs = search needs
-
-exchanged-requires-2 : tie.Need-exchanged-requires-2
-exchanged-requires-2 c κs = search needs
-
-chosen-requires-2 : tie.Need-chosen-requires-2
-chosen-requires-2 c κs = search needs
 
 returns-2 : tie.Need-returns-2
 unfolding betweenOf
@@ -45,14 +21,6 @@ returns-2 c =
 pub between-spec : {M : Type 1} → statement M
 between-spec =
     tie.close
-    (tie.spec
-    alike-requires
-    chosen-requires
-    returns
-    value-requires
-    value-requires-2
-    abs-requires
-    exchanged-requires
-    exchanged-requires-2
-    chosen-requires-2
-    returns-2)
+    (tie.spec (λ c κs. search needs) (λ c κs. search needs) returns (λ c κs. search needs)
+    (λ c κs. search needs) (λ c κs. search needs) (λ c κs. search needs) (λ c κs. search needs)
+    (λ c κs. search needs) returns-2)

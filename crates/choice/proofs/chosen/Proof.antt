@@ -14,27 +14,6 @@ use borrow.Author.Needs.{needs}
 use Rattle.choice.proofs.chosen.Statement.{statement}
 use Rattle.choice.proofs.chosen.Tie as tie
 
-enum-known-first : tie.Need-enum-known-first
-enum-known-first c = search needs
-
-enum-known-second : tie.Need-enum-known-second
-enum-known-second c = search needs
-
-median-requires : tie.Need-median-requires
-median-requires c κs = search needs
-
-enum-told : tie.Need-enum-told
-enum-told c = search needs
-
-enum-told-2 : tie.Need-enum-told-2
-enum-told-2 c = search needs
-
-enum-known-second-2 : tie.Need-enum-known-second-2
-enum-known-second-2 c = search needs
-
-enum-told-3 : tie.Need-enum-told-3
-enum-told-3 c = search needs
-
 -- both are lifted
 both : (k : tie.After-known-told2) → let s = k .before .before .before .before .before .before in
     let f = k .before .before .before .before .first .given .0 .0 in
@@ -78,17 +57,6 @@ returns-6 c = cc
 pub chosen-spec : {M : Type 1} → statement M
 chosen-spec =
     tie.close
-    (tie.spec
-    enum-known-first
-    enum-known-second
-    median-requires
-    enum-told
-    enum-told-2
-    enum-known-second-2
-    enum-told-3
-    returns
-    returns-2
-    returns-3
-    returns-4
-    returns-5
-    returns-6)
+    (tie.spec (λ c. search needs) (λ c. search needs) (λ c κs. search needs) (λ c. search needs)
+    (λ c. search needs) (λ c. search needs) (λ c. search needs) returns returns-2 returns-3 returns-4
+    returns-5 returns-6)

@@ -4,24 +4,6 @@ use borrow.Author.Needs.{needs}
 use Rattle.choice.proofs.exchanged.Statement.{statement}
 use Rattle.choice.proofs.exchanged.Tie as tie
 
-is-lifted-requires : tie.Need-is-lifted-requires
-is-lifted-requires c κs = search needs
-
-all-requires : tie.Need-all-requires
-all-requires c κs = search needs
-
-value-requires : tie.Need-value-requires
-value-requires c κs = search needs
-
-abs-requires : tie.Need-abs-requires
-abs-requires c κs = search needs
-
-is-lifted-requires-2 : tie.Need-is-lifted-requires-2
-is-lifted-requires-2 c κs = search needs
-
-all-requires-2 : tie.Need-all-requires-2
-all-requires-2 c κs = search needs
-
 returns : tie.Need-returns
 unfolding exchangedOf
 returns c =
@@ -35,12 +17,5 @@ returns-2 c =
 pub exchanged-spec : {M : Type 1} → statement M
 exchanged-spec =
     tie.close
-    (tie.spec
-    is-lifted-requires
-    all-requires
-    value-requires
-    abs-requires
-    is-lifted-requires-2
-    all-requires-2
-    returns
-    returns-2)
+    (tie.spec (λ c κs. search needs) (λ c κs. search needs) (λ c κs. search needs) (λ c κs. search needs)
+    (λ c κs. search needs) (λ c κs. search needs) returns returns-2)

@@ -3,12 +3,6 @@ use borrow.Author.Needs.{needs}
 use Rattle.choice.proofs.is_on.Statement.{statement}
 use Rattle.choice.proofs.is_on.Tie as tie
 
-abs-requires : tie.Need-abs-requires
-abs-requires c κs = search needs
-
-abs-requires-2 : tie.Need-abs-requires-2
-abs-requires-2 c κs = search needs
-
 returns : tie.Need-returns
 returns c = rw (← (c .before .abs .ensures), c .if1 .taken)
 
@@ -16,4 +10,4 @@ returns-2 : tie.Need-returns-2
 returns-2 c = rw (← (c .before .before .abs .ensures), ← (c .abs2 .ensures), c .before .if1 .left)
 
 pub is-on-spec : {M : Type 1} → statement M
-is-on-spec = tie.close (tie.spec abs-requires abs-requires-2 returns returns-2)
+is-on-spec = tie.close (tie.spec (λ c κs. search needs) (λ c κs. search needs) returns returns-2)

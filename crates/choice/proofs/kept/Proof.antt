@@ -3,12 +3,6 @@ use borrow.Author.Needs.{needs}
 use Rattle.choice.proofs.kept.Statement.{statement}
 use Rattle.choice.proofs.kept.Tie as tie
 
-abs-requires : tie.Need-abs-requires
-abs-requires c κs = search needs
-
-abs-requires-2 : tie.Need-abs-requires-2
-abs-requires-2 c κs = search needs
-
 returns : tie.Need-returns
 returns c = rw (← (c .before .abs .ensures), c .if1 .taken)
 
@@ -19,4 +13,4 @@ returns-3 : tie.Need-returns-3
 returns-3 c = rw (← (c .before .before .abs .ensures), c .before .if1 .left, c .if2 .left)
 
 pub kept-spec : {M : Type 1} → statement M
-kept-spec = tie.close (tie.spec abs-requires abs-requires-2 returns returns-2 returns-3)
+kept-spec = tie.close (tie.spec (λ c κs. search needs) (λ c κs. search needs) returns returns-2 returns-3)

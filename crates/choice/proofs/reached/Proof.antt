@@ -7,14 +7,8 @@ use Rattle.choice.proofs.reached.Tie as tie
 returns : tie.Need-returns
 returns c = near-within _ _ (c .if1 .taken)
 
-reach-requires : tie.Need-reach-requires
-reach-requires c κs = search needs
-
-within-requires : tie.Need-within-requires
-within-requires c κs = search needs
-
 returns-2 : tie.Need-returns-2
 returns-2 c = rw (c .within .ensures, c .before .reach .ensures)
 
 pub reached-spec : {M : Type 1} → statement M
-reached-spec = tie.close (tie.spec returns reach-requires within-requires returns-2)
+reached-spec = tie.close (tie.spec returns (λ c κs. search needs) (λ c κs. search needs) returns-2)

@@ -3,11 +3,8 @@ use borrow.Author.Needs.{needs}
 use Rattle.choice.proofs.within.Statement.{statement}
 use Rattle.choice.proofs.within.Tie as tie
 
-max-requires : tie.Need-max-requires
-max-requires c κs = search needs
-
 returns : tie.Need-returns
 returns c = rw (c .max .ensures)
 
 pub within-spec : {M : Type 1} → statement M
-within-spec = tie.close (tie.spec max-requires returns)
+within-spec = tie.close (tie.spec (λ c κs. search needs) returns)

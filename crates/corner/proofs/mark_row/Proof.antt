@@ -31,15 +31,6 @@ rows c = let below = c .before .before .before .pre .2 in (omega (arith, c .befo
 room : (c : tie.At-loop Inv-loop μ-loop) → let a = c .before .before .before .before .before .before .args in a .y * a .width + a .width ≤ length (c .loop .still)
 room c = let s = c .before .before .before .before .before .before in omega (arith, row-in (s .pre .0) (s .pre .2) .inside, c .loop .inv .2)
 
-previous-requires : tie.Need-previous-requires Inv-loop μ-loop
-previous-requires c κs = search needs
-
-after-requires : tie.Need-after-requires Inv-loop μ-loop
-after-requires c κs = search needs
-
-sub-last : tie.Need-sub-last Inv-loop μ-loop
-sub-last c = search needs
-
 column-at-requires : tie.Need-column-at-requires Inv-loop μ-loop
 column-at-requires c κs =
     let s = c .before .before .before .before in
@@ -56,9 +47,6 @@ loop-holds c =
     λ same h. c .column-at .ensures ∙ column-is same (a .width, a .height) (a .still .now) 0 _ (a .y) _ h (s .pre .1) (r .0) (s .pre .2) (r .1) in
     (λ same h. (none-marked same (a .width, a .height) (a .y) (a .still .now) h, first same h, first same h), omega arith, refl)
 
-add-column-at : tie.Need-add-column-at Inv-loop μ-loop
-add-column-at c = search needs
-
 column-at-requires-2 : tie.Need-column-at-requires-2 Inv-loop μ-loop
 column-at-requires-2 c κs =
     let l = c .before .before in
@@ -68,20 +56,8 @@ column-at-requires-2 c κs =
     let right : l .loop .x + 1 < a .width = omega arith in
     column-in (a .still .now) _ (a .width, a .height) (l .loop .x + 1) _ (a .y) _ (s .pre .0) (l .loop .inv .2) right (r .0) (s .pre .2) (r .1)
 
-place-requires : tie.Need-place-requires Inv-loop μ-loop
-place-requires c κs = search needs
-
-mark-requires : tie.Need-mark-requires Inv-loop μ-loop
-mark-requires c κs = search needs
-
 slice-write-still : tie.Need-slice-write-still Inv-loop μ-loop
 slice-write-still c = omega (arith, c .before .place .ensures, room (c .before .before .before .before .before))
-
-add-x : tie.Need-add-x Inv-loop μ-loop
-add-x c = search needs
-
-loop-less : tie.Need-loop-less Inv-loop μ-loop
-loop-less c = search needs
 
 loop-again : tie.Need-loop-again Inv-loop μ-loop
 loop-again c =
@@ -106,17 +82,8 @@ loop-again c =
       simp length-set (l .loop .inv .2),
     )
 
-place-requires-2 : tie.Need-place-requires-2 Inv-loop μ-loop
-place-requires-2 c κs = search needs
-
-mark-requires-2 : tie.Need-mark-requires-2 Inv-loop μ-loop
-mark-requires-2 c κs = search needs
-
 slice-write-still-2 : tie.Need-slice-write-still-2 Inv-loop μ-loop
 slice-write-still-2 c = omega (arith, c .before .place2 .ensures, room (c .before .before .before))
-
-same-length : tie.Need-same-length Inv-loop μ-loop
-same-length c = search needs
 
 returns : tie.Need-returns Inv-loop μ-loop
 returns c = λ same h.
@@ -137,24 +104,7 @@ returns c = λ same h.
 pub mark-row-spec : {M : Type 1} → statement M
 mark-row-spec =
     tie.close
-    (tie.spec
-    Inv-loop
-    μ-loop
-    previous-requires
-    after-requires
-    sub-last
-    column-at-requires
-    loop-holds
-    add-column-at
-    column-at-requires-2
-    place-requires
-    mark-requires
-    slice-write-still
-    add-x
-    loop-less
-    loop-again
-    place-requires-2
-    mark-requires-2
-    slice-write-still-2
-    same-length
-    returns)
+    (tie.spec Inv-loop μ-loop (λ c κs. search needs) (λ c κs. search needs) (λ c. search needs)
+    column-at-requires loop-holds (λ c. search needs) column-at-requires-2 (λ c κs. search needs)
+    (λ c κs. search needs) slice-write-still (λ c. search needs) (λ c. search needs) loop-again
+    (λ c κs. search needs) (λ c κs. search needs) slice-write-still-2 (λ c. search needs) returns)

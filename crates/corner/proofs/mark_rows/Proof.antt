@@ -30,12 +30,6 @@ mark-row-requires c κs =
     let fits = l .before .before .pre in
     (plane-as-long (fits .0) (l .loop .inv .2), fits .1, c .before .loop-test .taken)
 
-add-y : tie.Need-add-y Inv-loop μ-loop
-add-y c = search needs
-
-loop-less : tie.Need-loop-less Inv-loop μ-loop
-loop-less c = search needs
-
 loop-again : tie.Need-loop-again Inv-loop μ-loop
 loop-again c =
     let row = c .before .before in
@@ -45,9 +39,6 @@ loop-again c =
       row .mark-row .kept .0 ∙ inv .2,
     )
 
-same-length : tie.Need-same-length Inv-loop μ-loop
-same-length c = search needs
-
 returns : tie.Need-returns Inv-loop μ-loop
 returns c = λ same h.
     let l = c .before .loop in
@@ -56,13 +47,5 @@ returns c = λ same h.
 pub mark-rows-spec : {M : Type 1} → statement M
 mark-rows-spec =
     tie.close
-    (tie.spec
-    Inv-loop
-    μ-loop
-    loop-holds
-    mark-row-requires
-    add-y
-    loop-less
-    loop-again
-    same-length
-    returns)
+    (tie.spec Inv-loop μ-loop loop-holds mark-row-requires (λ c. search needs) (λ c. search needs) loop-again
+    (λ c. search needs) returns)

@@ -5,9 +5,6 @@ use borrow.Author.Needs.{needs}
 use Rattle.corner.proofs.two_bits.Statement.{statement}
 use Rattle.corner.proofs.two_bits.Tie as tie
 
-bit-requires : tie.Need-bit-requires
-bit-requires c κs = search needs
-
 returns : tie.Need-returns
 returns c = simp (c .before .if1 .taken, c .if2 .taken)
 
@@ -18,4 +15,4 @@ returns-3 : tie.Need-returns-3
 returns-3 c = c .bit .ensures ∙ simp (c .before .if1 .left) (omega arith)
 
 pub two-bits-spec : {M : Type 1} → statement M
-two-bits-spec = tie.close (tie.spec bit-requires returns returns-2 returns-3)
+two-bits-spec = tie.close (tie.spec (λ c κs. search needs) returns returns-2 returns-3)

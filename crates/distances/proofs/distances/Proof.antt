@@ -12,24 +12,15 @@ use Rattle.distances.proofs.distances.Tie as tie
 returns : tie.Need-returns
 returns c = refused _ _ (c .if1 .taken)
 
-div-n : tie.Need-div-n
-div-n c = search needs
-
 mul-n : tie.Need-mul-n
 mul-n c =
     let a = c .before .before in
     omega (arith, div-mul-le-self (length (a .args .cells .now)) (a .args .width), a .good)
 
-pass-down-requires : tie.Need-pass-down-requires
-pass-down-requires c κs = search needs
-
 pass-back-requires : tie.Need-pass-back-requires
 pass-back-requires c κs =
     let w = c .before .before .before .before .before .before .before .args .width in
     (omega arith, sym (ap (λ (k : ℕ). k / w * w) (c .before .before .before .pass-down .ensures .same)))
-
-same-length : tie.Need-same-length
-same-length c = search needs
 
 returns-2 : tie.Need-returns-2
 returns-2 c =
@@ -40,4 +31,5 @@ returns-2 c =
 pub distances-spec : {M : Type 1} → statement M
 distances-spec =
     tie.close
-    (tie.spec returns div-n mul-n pass-down-requires pass-back-requires same-length returns-2)
+    (tie.spec returns (λ c. search needs) mul-n (λ c κs. search needs) pass-back-requires (λ c. search needs)
+    returns-2)

@@ -31,18 +31,12 @@ sub-ahead c =
     let l = c .before .loop in
     omega (arith, row-before (a .args .width) (l .row) (a .pre .0) (omega arith) (l .inv .1) .0)
 
-ahead-requires : tie.Need-ahead-requires Inv-loop μ-loop
-ahead-requires c κs = search needs
-
 row-back-requires : tie.Need-row-back-requires Inv-loop μ-loop
 row-back-requires c κs =
     let a = c .before .before .before .before .before in
     let l = c .before .before .before .loop in
     let b = row-before (a .args .width) (l .row) (a .pre .0) (omega arith) (l .inv .1) in
     rw (c .before .ahead .ensures, l .inv .2 .same, a .pre .1) (rows-back (a .args .width) (length (a .args .cells .now)) (l .row - a .args .width) (a .pre .0) (b .1) (omega arith))
-
-loop-less : tie.Need-loop-less Inv-loop μ-loop
-loop-less c = search needs
 
 loop-again : tie.Need-loop-again Inv-loop μ-loop
 loop-again c =
@@ -55,9 +49,6 @@ loop-again c =
       passed-more (l .inv .2) (rw (l .inv .2 .same, ← a .pre .1, e) at (c .before .before .row-back .ensures)),
     )
 
-same-length : tie.Need-same-length Inv-loop μ-loop
-same-length c = search needs
-
 returns : tie.Need-returns Inv-loop μ-loop
 returns c =
     let e : c .before .loop .row ≡ 0 = omega arith in
@@ -66,15 +57,5 @@ returns c =
 pub pass-back-spec : {M : Type 1} → statement M
 pass-back-spec =
     tie.close
-    (tie.spec
-    Inv-loop
-    μ-loop
-    loop-holds
-    sub-row
-    sub-ahead
-    ahead-requires
-    row-back-requires
-    loop-less
-    loop-again
-    same-length
-    returns)
+    (tie.spec Inv-loop μ-loop loop-holds sub-row sub-ahead (λ c κs. search needs) row-back-requires
+    (λ c. search needs) loop-again (λ c. search needs) returns)

@@ -20,9 +20,6 @@ abbrev μ-loop : tie.MeasureT-loop
 loop-holds : tie.Need-loop-holds Inv-loop μ-loop
 loop-holds c = (omega arith, begins (c .before .args .width) 0 0 (c .before .pre .0) (omega arith) .1, passed-none _ _ _)
 
-behind-requires : tie.Need-behind-requires Inv-loop μ-loop
-behind-requires c κs = search needs
-
 row-down-requires : tie.Need-row-down-requires Inv-loop μ-loop
 row-down-requires c κs =
     let a = c .before .before .before .before .before in
@@ -35,9 +32,6 @@ add-row c =
     let l = c .before .before .before .before .before .before .loop in
     omega (arith, fits (a .args .width) (length (a .args .cells .now)) (l .row) (a .pre .0) (l .inv .1) (omega arith), div-mul-le-self (length (a .args .cells .now)) (a .args .width))
 
-loop-less : tie.Need-loop-less Inv-loop μ-loop
-loop-less c = search needs
-
 loop-again : tie.Need-loop-again Inv-loop μ-loop
 loop-again c =
     let a = c .before .before .before .before .before .before .before .before in
@@ -47,9 +41,6 @@ loop-again c =
       passed-more (l .inv .2) (c .before .before .row-down .ensures),
     )
 
-same-length : tie.Need-same-length Inv-loop μ-loop
-same-length c = search needs
-
 returns : tie.Need-returns Inv-loop μ-loop
 returns c =
     let e : c .before .loop .row ≡ c .before .before .before .args .n = omega arith in
@@ -58,14 +49,5 @@ returns c =
 pub pass-down-spec : {M : Type 1} → statement M
 pass-down-spec =
     tie.close
-    (tie.spec
-    Inv-loop
-    μ-loop
-    loop-holds
-    behind-requires
-    row-down-requires
-    add-row
-    loop-less
-    loop-again
-    same-length
-    returns)
+    (tie.spec Inv-loop μ-loop loop-holds (λ c κs. search needs) row-down-requires add-row (λ c. search needs)
+    loop-again (λ c. search needs) returns)

@@ -18,45 +18,9 @@ Inv-loop cells₀ row up width left₀ beside₀ x₀ cells left beside x =
 abbrev μ-loop : tie.MeasureT-loop
 μ-loop cells₀ row up width left₀ beside₀ x₀ cells left beside x = width - x
 
-slice-read-beside : tie.Need-slice-read-beside Inv-loop μ-loop
-slice-read-beside c = search needs
-
 loop-holds : tie.Need-loop-holds Inv-loop μ-loop
 loop-holds c =
     (omega arith, omega arith, rw add-zero refl, rw add-zero (passed-none _ _ _))
-
-sub-ahead : tie.Need-sub-ahead Inv-loop μ-loop
-sub-ahead c = search needs
-
-ahead-requires : tie.Need-ahead-requires Inv-loop μ-loop
-ahead-requires c κs = search needs
-
-add-lowest : tie.Need-add-lowest Inv-loop μ-loop
-add-lowest c = search needs
-
-add-lowest-2 : tie.Need-add-lowest-2 Inv-loop μ-loop
-add-lowest-2 c = search needs
-
-add-lowest-3 : tie.Need-add-lowest-3 Inv-loop μ-loop
-add-lowest-3 c = search needs
-
-add-lowest-4 : tie.Need-add-lowest-4 Inv-loop μ-loop
-add-lowest-4 c = search needs
-
-lowest-requires : tie.Need-lowest-requires Inv-loop μ-loop
-lowest-requires c κs = search needs
-
-add-cells : tie.Need-add-cells Inv-loop μ-loop
-add-cells c = search needs
-
-slice-write-cells : tie.Need-slice-write-cells Inv-loop μ-loop
-slice-write-cells c = search needs
-
-add-x : tie.Need-add-x Inv-loop μ-loop
-add-x c = search needs
-
-loop-less : tie.Need-loop-less Inv-loop μ-loop
-loop-less c = search needs
 
 loop-again : tie.Need-loop-again Inv-loop μ-loop
 loop-again c =
@@ -71,9 +35,6 @@ loop-again c =
           (omega arith) (omega arith) (c .before .before .ahead .ensures) (c .lowest .ensures) (rw e (a .pre)) (l .inv .2)),
     )
 
-same-length : tie.Need-same-length Inv-loop μ-loop
-same-length c = search needs
-
 returns : tie.Need-returns Inv-loop μ-loop
 returns c =
     let a = c .before .before .before .before .args in
@@ -84,22 +45,7 @@ returns c =
 pub row-down-spec : {M : Type 1} → statement M
 row-down-spec =
     tie.close
-    (tie.spec
-    Inv-loop
-    μ-loop
-    slice-read-beside
-    loop-holds
-    sub-ahead
-    ahead-requires
-    add-lowest
-    add-lowest-2
-    add-lowest-3
-    add-lowest-4
-    lowest-requires
-    add-cells
-    slice-write-cells
-    add-x
-    loop-less
-    loop-again
-    same-length
-    returns)
+    (tie.spec Inv-loop μ-loop (λ c. search needs) loop-holds (λ c. search needs) (λ c κs. search needs)
+    (λ c. search needs) (λ c. search needs) (λ c. search needs) (λ c. search needs) (λ c κs. search needs)
+    (λ c. search needs) (λ c. search needs) (λ c. search needs) (λ c. search needs) loop-again
+    (λ c. search needs) returns)

@@ -7,29 +7,8 @@ use Rattle.empty.proofs.Replies.{refused, ran}
 use Rattle.empty.proofs.empty.Statement.{statement}
 use Rattle.empty.proofs.empty.Tie as tie
 
-slice-aggregate-empty-refusal : tie.Need-slice-aggregate-empty-refusal
-slice-aggregate-empty-refusal c = search needs
-
-slice-aggregate-empty-refusal-2 : tie.Need-slice-aggregate-empty-refusal-2
-slice-aggregate-empty-refusal-2 c = search needs
-
-slice-aggregate-empty-refusal-3 : tie.Need-slice-aggregate-empty-refusal-3
-slice-aggregate-empty-refusal-3 c = search needs
-
-empty-refusal-requires : tie.Need-empty-refusal-requires
-empty-refusal-requires c κs = search needs
-
 returns : tie.Need-returns
 returns c = refused _ _ _ (c .before .empty-refusal .ensures) (c .if1 .taken)
-
-divided-requires : tie.Need-divided-requires
-divided-requires c κs = search needs
-
-cells-requires : tie.Need-cells-requires
-cells-requires c κs = search needs
-
-cells-requires-2 : tie.Need-cells-requires-2
-cells-requires-2 c κs = search needs
 
 rows-unmarked-requires : tie.Need-rows-unmarked-requires
 rows-unmarked-requires c κs =
@@ -46,14 +25,5 @@ returns-2 c =
 pub empty-spec : {M : Type 1} → statement M
 empty-spec =
     tie.close
-    (tie.spec
-    slice-aggregate-empty-refusal
-    slice-aggregate-empty-refusal-2
-    slice-aggregate-empty-refusal-3
-    empty-refusal-requires
-    returns
-    divided-requires
-    cells-requires
-    cells-requires-2
-    rows-unmarked-requires
-    returns-2)
+    (tie.spec (λ c. search needs) (λ c. search needs) (λ c. search needs) (λ c κs. search needs) returns
+    (λ c κs. search needs) (λ c κs. search needs) (λ c κs. search needs) rows-unmarked-requires returns-2)

@@ -23,9 +23,6 @@ loop-holds : tie.Need-loop-holds Inv-loop μ-loop
 unfolding turns all
 loop-holds c = (refl, omega arith)
 
-add-row-unmarked : tie.Need-add-row-unmarked Inv-loop μ-loop
-add-row-unmarked c = search needs
-
 row-unmarked-requires : tie.Need-row-unmarked-requires Inv-loop μ-loop
 row-unmarked-requires c κs =
     let s = c .before .before in in-row _ _ _ _ (s .args .height) _ (s .pre) (c .loop-test .taken)
@@ -35,12 +32,6 @@ returns c =
     let read = c .before in
     let a = read .before .before .before .args in
     sym (all-false _ (read .before .before .loop .y) (λ (y : ℕ). rowUnmarked (a .b .now) (a .first + y) (a .pitch) (a .width)) (read .before .loop-test .taken) (sym (read .row-unmarked .ensures) ∙ not-true _ (c .if1 .taken)))
-
-add-y : tie.Need-add-y Inv-loop μ-loop
-add-y c = search needs
-
-loop-less : tie.Need-loop-less Inv-loop μ-loop
-loop-less c = search needs
 
 loop-again : tie.Need-loop-again Inv-loop μ-loop
 unfolding all
@@ -57,14 +48,5 @@ returns-2 c =
 pub rows-unmarked-spec : {M : Type 1} → statement M
 rows-unmarked-spec =
     tie.close
-    (tie.spec
-    Inv-loop
-    μ-loop
-    loop-holds
-    add-row-unmarked
-    row-unmarked-requires
-    returns
-    add-y
-    loop-less
-    loop-again
-    returns-2)
+    (tie.spec Inv-loop μ-loop loop-holds (λ c. search needs) row-unmarked-requires returns (λ c. search needs)
+    (λ c. search needs) loop-again returns-2)

@@ -8,19 +8,10 @@ use Rattle.empty.proofs.Rows.{is-zero}
 use Rattle.empty.proofs.unmarked.Statement.{statement}
 use Rattle.empty.proofs.unmarked.Tie as tie
 
-place-requires : tie.Need-place-requires
-place-requires c κs = search needs
-
-mul-result : tie.Need-mul-result
-mul-result c = search needs
-
-shared-slice-copy-out-result : tie.Need-shared-slice-copy-out-result
-shared-slice-copy-out-result c = search needs
-
 returns : tie.Need-returns
 returns c =
     let a = c .before .before .args in
     ap not (is-zero (getD (a .b .now) (c .before .place .result) (pos 0)) (c .result .given)) ∙ rw (c .before .place .ensures)
 
 pub unmarked-spec : {M : Type 1} → statement M
-unmarked-spec = tie.close (tie.spec place-requires mul-result shared-slice-copy-out-result returns)
+unmarked-spec = tie.close (tie.spec (λ c κs. search needs) (λ c. search needs) (λ c. search needs) returns)

@@ -12,12 +12,6 @@ use Rattle.evidence_calls.specs.Calls.{LaterTold}
 use Rattle.evidence_calls.proofs.render.Statement.{statement}
 use Rattle.evidence_calls.proofs.render.Tie as tie
 
-safeteal-render-requires : tie.Need-safeteal-render-requires
-safeteal-render-requires c κs = search needs
-
-same-length : tie.Need-same-length
-same-length c = search needs
-
 returns : tie.Need-returns
 returns c =
     let on = c .before .before in
@@ -33,4 +27,4 @@ returns c =
     carried l plane output frames fx fy bx by gw gh left r a b c d e f t = rw (sym a, sym b, sym c, sym d, sym e, sym f) t
 
 pub render-spec : {M : Type 1} → statement M
-render-spec = tie.close (tie.spec safeteal-render-requires same-length returns)
+render-spec = tie.close (tie.spec (λ c κs. search needs) (λ c. search needs) returns)

@@ -5,24 +5,6 @@ use Rattle.motion.proofs.Fields.{back}
 use Rattle.far.proofs.far.Statement.{statement}
 use Rattle.far.proofs.far.Tie as tie
 
-farthest-requires : tie.Need-farthest-requires
-farthest-requires c κs = search needs
-
-farthest-requires-2 : tie.Need-farthest-requires-2
-farthest-requires-2 c κs = search needs
-
-farthest-requires-3 : tie.Need-farthest-requires-3
-farthest-requires-3 c κs = search needs
-
-farthest-requires-4 : tie.Need-farthest-requires-4
-farthest-requires-4 c κs = search needs
-
-int-to-float-result : tie.Need-int-to-float-result
-int-to-float-result c = search needs
-
-of-int-requires : tie.Need-of-int-requires
-of-int-requires c κs = search needs
-
 returns : tie.Need-returns
 unfolding far
 returns c =
@@ -33,11 +15,5 @@ returns c =
 pub far-spec : {M : Type 1} → statement M
 far-spec =
     tie.close
-    (tie.spec
-    farthest-requires
-    farthest-requires-2
-    farthest-requires-3
-    farthest-requires-4
-    int-to-float-result
-    of-int-requires
-    returns)
+    (tie.spec (λ c κs. search needs) (λ c κs. search needs) (λ c κs. search needs) (λ c κs. search needs)
+    (λ c. search needs) (λ c κs. search needs) returns)

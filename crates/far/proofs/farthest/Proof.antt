@@ -18,24 +18,6 @@ abbrev μ-loop : tie.MeasureT-loop
 loop-holds : tie.Need-loop-holds Inv-loop μ-loop
 loop-holds c = (zero-le, refl)
 
-mul-apart : tie.Need-mul-apart Inv-loop μ-loop
-mul-apart c = search needs
-
-shared-slice-read-apart : tie.Need-shared-slice-read-apart Inv-loop μ-loop
-shared-slice-read-apart c = search needs
-
-apart-requires : tie.Need-apart-requires Inv-loop μ-loop
-apart-requires c κs = search needs
-
-larger-requires : tie.Need-larger-requires Inv-loop μ-loop
-larger-requires c κs = search needs
-
-add-i : tie.Need-add-i Inv-loop μ-loop
-add-i c = search needs
-
-loop-less : tie.Need-loop-less Inv-loop μ-loop
-loop-less c = search needs
-
 loop-again : tie.Need-loop-again Inv-loop μ-loop
 loop-again c =
     let test = c .before .before .before in
@@ -52,15 +34,5 @@ returns c =
 pub farthest-spec : {M : Type 1} → statement M
 farthest-spec =
     tie.close
-    (tie.spec
-    Inv-loop
-    μ-loop
-    loop-holds
-    mul-apart
-    shared-slice-read-apart
-    apart-requires
-    larger-requires
-    add-i
-    loop-less
-    loop-again
-    returns)
+    (tie.spec Inv-loop μ-loop loop-holds (λ c. search needs) (λ c. search needs) (λ c κs. search needs)
+    (λ c κs. search needs) (λ c. search needs) (λ c. search needs) loop-again returns)

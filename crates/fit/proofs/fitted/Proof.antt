@@ -4,9 +4,6 @@ use borrow.Author.Needs.{needs}
 use Rattle.fit.proofs.fitted.Statement.{statement}
 use Rattle.fit.proofs.fitted.Tie as tie
 
-counts-of-requires : tie.Need-counts-of-requires
-counts-of-requires c κs = search needs
-
 fit-rows-requires : tie.Need-fit-rows-requires
 fit-rows-requires c κs =
     let s = c .before .before .before .before .before .before .before .before .before .before .before .before .before .before .before in
@@ -17,21 +14,6 @@ keep-requires c κs =
     let rows = c .before .before .before .before .before .before .before .fit-rows in
     let work = c .before .before .before .before .before .before .before .before .before .before .before .before .before .before .before .before .before .before .before .before .before .before .before .pre .work in
     (record { wide = work .wide; tall = work .tall; models-long = rows .kept .0 ∙ work .models-long; kept-long = rows .kept .1 .0 ∙ work .kept-long; cover-long = work .cover-long }, rows .ensures .flagged)
-
-cells-requires : tie.Need-cells-requires
-cells-requires c κs = search needs
-
-distances-requires : tie.Need-distances-requires
-distances-requires c κs = search needs
-
-same-length : tie.Need-same-length
-same-length c = search needs
-
-same-length-2 : tie.Need-same-length-2
-same-length-2 c = search needs
-
-same-length-3 : tie.Need-same-length-3
-same-length-3 c = search needs
 
 returns : tie.Need-returns
 returns c =
@@ -45,13 +27,5 @@ returns c =
 pub fitted-spec : {M : Type 1} → statement M
 fitted-spec =
     tie.close
-    (tie.spec
-    counts-of-requires
-    fit-rows-requires
-    keep-requires
-    cells-requires
-    distances-requires
-    same-length
-    same-length-2
-    same-length-3
-    returns)
+    (tie.spec (λ c κs. search needs) fit-rows-requires keep-requires (λ c κs. search needs)
+    (λ c κs. search needs) (λ c. search needs) (λ c. search needs) (λ c. search needs) returns)

@@ -7,11 +7,8 @@ use Rattle.fit.proofs.neighbour.Tie as tie
 returns : tie.Need-returns
 returns c = sym (simp (eq-eqb _ _ (c .if1 .taken)))
 
-summed-requires : tie.Need-summed-requires
-summed-requires c κs = search needs
-
 returns-2 : tie.Need-returns-2
 returns-2 c = c .summed .ensures ∙ sym (simp (ne-eqb _ _ (c .before .if1 .left)))
 
 pub neighbour-spec : {M : Type 1} → statement M
-neighbour-spec = tie.close (tie.spec returns summed-requires returns-2)
+neighbour-spec = tie.close (tie.spec returns (λ c κs. search needs) returns-2)

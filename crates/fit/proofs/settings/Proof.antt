@@ -3,30 +3,6 @@ use borrow.Author.Needs.{needs}
 use Rattle.fit.proofs.settings.Statement.{statement}
 use Rattle.fit.proofs.settings.Tie as tie
 
-within-requires : tie.Need-within-requires
-within-requires c κs = search needs
-
-within-requires-2 : tie.Need-within-requires-2
-within-requires-2 c κs = search needs
-
-both-requires : tie.Need-both-requires
-both-requires c κs = search needs
-
-unless-requires : tie.Need-unless-requires
-unless-requires c κs = search needs
-
-unless-requires-2 : tie.Need-unless-requires-2
-unless-requires-2 c κs = search needs
-
-unless-requires-3 : tie.Need-unless-requires-3
-unless-requires-3 c κs = search needs
-
-unless-requires-4 : tie.Need-unless-requires-4
-unless-requires-4 c κs = search needs
-
-unless-requires-5 : tie.Need-unless-requires-5
-unless-requires-5 c κs = search needs
-
 returns : tie.Need-returns
 unfolding firstFitting
 returns c =
@@ -36,13 +12,5 @@ returns c =
 pub settings-spec : {M : Type 1} → statement M
 settings-spec =
     tie.close
-    (tie.spec
-    within-requires
-    within-requires-2
-    both-requires
-    unless-requires
-    unless-requires-2
-    unless-requires-3
-    unless-requires-4
-    unless-requires-5
-    returns)
+    (tie.spec (λ c κs. search needs) (λ c κs. search needs) (λ c κs. search needs) (λ c κs. search needs)
+    (λ c κs. search needs) (λ c κs. search needs) (λ c κs. search needs) (λ c κs. search needs) returns)

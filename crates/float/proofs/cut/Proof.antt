@@ -13,14 +13,6 @@ cut-low-requires c κs =
     let x = c .before .before .args .x in
     (T-of (lt (fin false 0 (pos 0)) x) (c .before .if1 .taken), T-of (lt x (fin false 1 (pos 23))) (c .if2 .taken))
 
-returns : tie.Need-returns
-returns c = search needs
-
-cut-any-requires : tie.Need-cut-any-requires
-cut-any-requires c κs = search needs
-
-returns-2 : tie.Need-returns-2
-returns-2 c = search needs
-
 pub cut-spec : {M : Type 1} → statement M
-cut-spec = tie.close (tie.spec cut-low-requires returns cut-any-requires returns-2)
+cut-spec =
+    tie.close (tie.spec cut-low-requires (λ c. search needs) (λ c κs. search needs) (λ c. search needs))

@@ -68,5 +68,4 @@ returns-2 c =
     in-same x (there-and-back x) (known (c .before .before)) (c .if1 .left)
 
 pub cut-low-spec : {M : Type 1} → statement M
-cut-low-spec =
-    tie.close (tie.spec float-to-int-n sub-result cast-result cast-result-2 returns returns-2)
+cut-low-spec = tie.close (tie.spec float-to-int-n sub-result cast-result cast-result-2 returns returns-2)

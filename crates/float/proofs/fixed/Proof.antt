@@ -125,4 +125,6 @@ returns-5 c =
 
 pub fixed-spec : {M : Type 1} → statement M
 fixed-spec =
-    tie.close (tie.spec nearest-requires cast-result nearest-requires-2 cast-result-2 sub-result returns returns-2 returns-3 returns-4 returns-5)
+    tie.close
+    (tie.spec nearest-requires cast-result nearest-requires-2 cast-result-2 sub-result returns returns-2
+    returns-3 returns-4 returns-5)

@@ -9,21 +9,6 @@ use Rattle.gather.proofs.add_terms.Tie as tie
 add-two-requires : tie.Need-add-two-requires
 add-two-requires c κs = ⊎-elim (λ e. omega arith) (λ e. omega arith) (c .before .before .pre .0)
 
-add-add-two : tie.Need-add-add-two
-add-add-two c = search needs
-
-add-two-requires-2 : tie.Need-add-two-requires-2
-add-two-requires-2 c κs = search needs
-
-add-add-two-2 : tie.Need-add-add-two-2
-add-add-two-2 c = search needs
-
-add-two-requires-3 : tie.Need-add-two-requires-3
-add-two-requires-3 c κs = search needs
-
-same-length : tie.Need-same-length
-same-length c = search needs
-
 returns : tie.Need-returns
 returns c =
     let third = c .before .before in
@@ -34,9 +19,6 @@ returns c =
     let a = s .args in
     six (a .pairs) (a .t) (a .k) (a .many) _ _ (first .add-two .ensures) _ _ (then .if1 .taken) (second .add-two2 .ensures) (third .add-two3 .ensures)
 
-same-length-2 : tie.Need-same-length-2
-same-length-2 c = search needs
-
 returns-2 : tie.Need-returns-2
 returns-2 c =
     let s = c .before .before .before .before .before .before in
@@ -46,13 +28,5 @@ returns-2 c =
 pub add-terms-spec : {M : Type 1} → statement M
 add-terms-spec =
     tie.close
-    (tie.spec
-    add-two-requires
-    add-add-two
-    add-two-requires-2
-    add-add-two-2
-    add-two-requires-3
-    same-length
-    returns
-    same-length-2
-    returns-2)
+    (tie.spec add-two-requires (λ c. search needs) (λ c κs. search needs) (λ c. search needs)
+    (λ c κs. search needs) (λ c. search needs) returns (λ c. search needs) returns-2)

@@ -82,15 +82,5 @@ returns c =
 pub gather-spec : {M : Type 1} → statement M
 gather-spec =
     tie.close
-    (tie.spec
-    Inv-loop
-    μ-loop
-    mul-step
-    loop-holds
-    gather-row-requires
-    add-place
-    add-y
-    loop-less
-    loop-again
-    same-length
-    returns)
+    (tie.spec Inv-loop μ-loop mul-step loop-holds gather-row-requires add-place add-y loop-less loop-again
+    same-length returns)

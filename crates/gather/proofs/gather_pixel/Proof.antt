@@ -15,21 +15,6 @@ pass s =
     passOf (a .first .now) (a .first-pitch) (a .second .now) (a .second-pitch) (a .forward-x .now) (a .forward-y .now) (a .backward-x .now) (a .backward-y .now)
     (a .grid) (a .width) (a .height) (a .ratio)
 
-carry-requires : tie.Need-carry-requires
-carry-requires c κs = search needs
-
-steps-of-requires : tie.Need-steps-of-requires
-steps-of-requires c κs = search needs
-
-terms-by-requires : tie.Need-terms-by-requires
-terms-by-requires c κs = search needs
-
-add-terms-requires : tie.Need-add-terms-requires
-add-terms-requires c κs = search needs
-
-same-length : tie.Need-same-length
-same-length c = search needs
-
 returns : tie.Need-returns
 returns c =
     let stored = c .before .before in
@@ -48,10 +33,5 @@ returns c =
 pub gather-pixel-spec : {M : Type 1} → statement M
 gather-pixel-spec =
     tie.close
-    (tie.spec
-    carry-requires
-    steps-of-requires
-    terms-by-requires
-    add-terms-requires
-    same-length
-    returns)
+    (tie.spec (λ c κs. search needs) (λ c κs. search needs) (λ c κs. search needs) (λ c κs. search needs)
+    (λ c. search needs) returns)

@@ -80,14 +80,5 @@ returns c =
 pub gather-pixels-spec : {M : Type 1} → statement M
 gather-pixels-spec =
     tie.close
-    (tie.spec
-    Inv-loop
-    μ-loop
-    loop-holds
-    gather-pixel-requires
-    add-k
-    add-x
-    loop-less
-    loop-again
-    same-length
+    (tie.spec Inv-loop μ-loop loop-holds gather-pixel-requires add-k add-x loop-less loop-again same-length
     returns)

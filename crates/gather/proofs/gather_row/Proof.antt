@@ -5,15 +5,6 @@ use Rattle.motion.proofs.Fields.{same-rows}
 use Rattle.gather.proofs.gather_row.Statement.{statement}
 use Rattle.gather.proofs.gather_row.Tie as tie
 
-row-taps-requires : tie.Need-row-taps-requires
-row-taps-requires c κs = search needs
-
-column-taps-requires : tie.Need-column-taps-requires
-column-taps-requires c κs = search needs
-
-around-requires : tie.Need-around-requires
-around-requires c κs = search needs
-
 gather-pixels-requires : tie.Need-gather-pixels-requires
 gather-pixels-requires c κs =
     let s = c .before .before .before .before .before .before .before .before .before .before .before in
@@ -29,19 +20,8 @@ gather-pixels-requires c κs =
       s .pre .3,
     )
 
-same-length : tie.Need-same-length
-same-length c = search needs
-
-returns : tie.Need-returns
-returns c = search needs
-
 pub gather-row-spec : {M : Type 1} → statement M
 gather-row-spec =
     tie.close
-    (tie.spec
-    row-taps-requires
-    column-taps-requires
-    around-requires
-    gather-pixels-requires
-    same-length
-    returns)
+    (tie.spec (λ c κs. search needs) (λ c κs. search needs) (λ c κs. search needs) gather-pixels-requires
+    (λ c. search needs) (λ c. search needs))

@@ -7,20 +7,8 @@ use borrow.Author.Needs.{needs}
 use Rattle.hold.proofs.hold.Statement.{statement}
 use Rattle.hold.proofs.hold.Tie as tie
 
-hold-refusal-requires : tie.Need-hold-refusal-requires
-hold-refusal-requires c κs = search needs
-
-same-length : tie.Need-same-length
-same-length c = search needs
-
 returns : tie.Need-returns
 returns c = refused _ _ _ _ (c .before .hold-refusal .ensures) (c .if1 .taken)
-
-divided-requires : tie.Need-divided-requires
-divided-requires c κs = search needs
-
-step-down-requires : tie.Need-step-down-requires
-step-down-requires c κs = search needs
 
 hold-steps-requires : tie.Need-hold-steps-requires
 hold-steps-requires c κs =
@@ -29,9 +17,6 @@ hold-steps-requires c κs =
     rw (c .before .step-down .ensures, c .before .before .divided .ensures)
     (runs (planeOf (a .output .now) (a .output-pitch)) (planeOf (a .held .now) (a .held-pitch)) (a .width) (a .height) (a .mask .now) (a .mask-width)
     (sym (tested .before .hold-refusal .ensures) ∙ tested .if1 .left))
-
-same-length-2 : tie.Need-same-length-2
-same-length-2 c = search needs
 
 returns-2 : tie.Need-returns-2
 returns-2 c =
@@ -49,12 +34,5 @@ returns-2 c =
 pub hold-spec : {M : Type 1} → statement M
 hold-spec =
     tie.close
-    (tie.spec
-    hold-refusal-requires
-    same-length
-    returns
-    divided-requires
-    step-down-requires
-    hold-steps-requires
-    same-length-2
-    returns-2)
+    (tie.spec (λ c κs. search needs) (λ c. search needs) returns (λ c κs. search needs) (λ c κs. search needs)
+    hold-steps-requires (λ c. search needs) returns-2)

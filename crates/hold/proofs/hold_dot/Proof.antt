@@ -12,12 +12,6 @@ use borrow.Author.Needs.{needs}
 use Rattle.hold.proofs.hold_dot.Statement.{statement}
 use Rattle.hold.proofs.hold_dot.Tie as tie
 
-byte-sum-requires : tie.Need-byte-sum-requires
-byte-sum-requires c κs = search needs
-
-cell-count-requires : tie.Need-cell-count-requires
-cell-count-requires c κs = search needs
-
 -- the full weight of the pixel's cells
 weight : (c : tie.After-cell-count)
     → let a = c .before .before .before .before .args in (1 ≤ 255 * (a .across * a .down)) × (255 * (a .across * a .down) ≤ 16320)
@@ -28,9 +22,6 @@ weight c =
 mul-full : tie.Need-mul-full
 mul-full c = omega (arith, c .cell-count .ensures, weight c)
 
-both-requires : tie.Need-both-requires
-both-requires c κs = search needs
-
 returns : tie.Need-returns
 unfolding put ruleBy
 returns c =
@@ -40,12 +31,6 @@ returns c =
     let full = 255 * n .cell-count .result in
     let same = both (a .skip) (eqb sum full) (sym (c .before .both .ensures) ∙ c .if1 .taken) .1 in
     stays (a .made) _ _ _ (rw (n .before .byte-sum .ensures .sum, n .cell-count .ensures) at (eqb-true sum full same))
-
-place-requires : tie.Need-place-requires
-place-requires c κs = search needs
-
-shared-slice-read-kept : tie.Need-shared-slice-read-kept
-shared-slice-read-kept c = search needs
 
 weighed-requires : tie.Need-weighed-requires
 weighed-requires c κs =
@@ -65,13 +50,5 @@ returns-2 c =
 pub hold-dot-spec : {M : Type 1} → statement M
 hold-dot-spec =
     tie.close
-    (tie.spec
-    byte-sum-requires
-    cell-count-requires
-    mul-full
-    both-requires
-    returns
-    place-requires
-    shared-slice-read-kept
-    weighed-requires
-    returns-2)
+    (tie.spec (λ c κs. search needs) (λ c κs. search needs) mul-full (λ c κs. search needs) returns
+    (λ c κs. search needs) (λ c. search needs) weighed-requires returns-2)

@@ -15,9 +15,6 @@ hold-rows-requires c κs =
     let f = c .before .before .before .before .pre in
     (f .0, f .1, rw (e .0, e .1) at (f .2))
 
-same-length : tie.Need-same-length
-same-length c = search needs
-
 returns : tie.Need-returns
 returns c =
     let d = c .before .before in
@@ -25,4 +22,4 @@ returns c =
     rw (e .0, e .1) (d .hold-rows .ensures)
 
 pub hold-fixed-spec : {M : Type 1} → statement M
-hold-fixed-spec = tie.close (tie.spec hold-rows-requires same-length returns)
+hold-fixed-spec = tie.close (tie.spec hold-rows-requires (λ c. search needs) returns)

@@ -22,34 +22,16 @@ abbrev μ-loop : tie.MeasureT-loop
 loop-holds : tie.Need-loop-holds Inv-loop μ-loop
 loop-holds c = (row-none _ _ _ _, omega arith, refl)
 
-place-requires : tie.Need-place-requires Inv-loop μ-loop
-place-requires c κs = search needs
-
-slice-read-hold-dot : tie.Need-slice-read-hold-dot Inv-loop μ-loop
-slice-read-hold-dot c = search needs
-
 hold-dot-requires : tie.Need-hold-dot-requires Inv-loop μ-loop
 hold-dot-requires c κs =
     let l = c .before .before in
     (search needs, pixel-cells (l .before .before .before .before .before .pre .2) (l .loop-test .taken))
-
-slice-write-output : tie.Need-slice-write-output Inv-loop μ-loop
-slice-write-output c = search needs
-
-add-x : tie.Need-add-x Inv-loop μ-loop
-add-x c = search needs
-
-loop-less : tie.Need-loop-less Inv-loop μ-loop
-loop-less c = search needs
 
 loop-again : tie.Need-loop-again Inv-loop μ-loop
 loop-again c =
     let p = c .before .before in
     let inv = p .before .before .loop .inv in
     (rw (p .place .ensures) (row-more _ (inv .0) (rw (p .place .ensures) at (c .hold-dot .ensures))), omega arith, simp length-set (inv .2))
-
-same-length : tie.Need-same-length Inv-loop μ-loop
-same-length c = search needs
 
 returns : tie.Need-returns Inv-loop μ-loop
 returns c =
@@ -59,16 +41,5 @@ returns c =
 pub hold-row-spec : {M : Type 1} → statement M
 hold-row-spec =
     tie.close
-    (tie.spec
-    Inv-loop
-    μ-loop
-    loop-holds
-    place-requires
-    slice-read-hold-dot
-    hold-dot-requires
-    slice-write-output
-    add-x
-    loop-less
-    loop-again
-    same-length
-    returns)
+    (tie.spec Inv-loop μ-loop loop-holds (λ c κs. search needs) (λ c. search needs) hold-dot-requires
+    (λ c. search needs) (λ c. search needs) (λ c. search needs) loop-again (λ c. search needs) returns)

@@ -10,9 +10,6 @@ use Rattle.hold.proofs.weighed.Tie as tie
 bound : (c : tie.Start) → Products (c .args .kept) (c .args .made) (c .args .sum) (c .args .full)
 bound c = products (c .args .kept) (c .args .made) (c .args .sum) (c .args .full) (c .fits .kept .fits) (c .fits .made .fits) (c .pre .0) (c .pre .2)
 
-sub-mixed : tie.Need-sub-mixed
-sub-mixed c = search needs
-
 mul-mixed : tie.Need-mul-mixed
 mul-mixed c = omega (arith, bound c)
 
@@ -24,9 +21,6 @@ add-mixed c = omega (arith, bound c)
 
 add-result : tie.Need-add-result
 add-result c = omega (arith, bound c)
-
-div-result : tie.Need-div-result
-div-result c = search needs
 
 cast-result : tie.Need-cast-result
 cast-result c =
@@ -40,4 +34,5 @@ returns c = refl
 pub weighed-spec : {M : Type 1} → statement M
 weighed-spec =
     tie.close
-    (tie.spec sub-mixed mul-mixed mul-mixed-2 add-mixed add-result div-result cast-result returns)
+    (tie.spec (λ c. search needs) mul-mixed mul-mixed-2 add-mixed add-result (λ c. search needs) cast-result
+    returns)

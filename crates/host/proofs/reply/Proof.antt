@@ -4,12 +4,6 @@ use borrow.Author.Needs.{needs}
 use Rattle.host.proofs.reply.Statement.{statement}
 use Rattle.host.proofs.reply.Tie as tie
 
-number-requires : tie.Need-number-requires
-number-requires c κs = search needs
-
-add-result : tie.Need-add-result
-add-result c = search needs
-
 returns : tie.Need-returns
 returns c = rw (c .if1 .taken, c .before .number .ensures)
 
@@ -17,4 +11,4 @@ returns-2 : tie.Need-returns-2
 returns-2 c = rw (c .if1 .left) (omega (arith, c .before .number .ensures))
 
 pub reply-spec : {M : Type 1} → statement M
-reply-spec = tie.close (tie.spec number-requires add-result returns returns-2)
+reply-spec = tie.close (tie.spec (λ c κs. search needs) (λ c. search needs) returns returns-2)

@@ -4,19 +4,11 @@ use Rattle.host.proofs.Answers.{alone}
 use Rattle.host.proofs.safeteal_distances.Statement.{statement}
 use Rattle.host.proofs.safeteal_distances.Tie as tie
 
-distances-requires : tie.Need-distances-requires
-distances-requires c κs = search needs
-
-number-requires : tie.Need-number-requires
-number-requires c κs = search needs
-
-same-length : tie.Need-same-length
-same-length c = search needs
-
 returns : tie.Need-returns
 returns c =
     let d = c .before .before .before .distances .ensures in
     record { told = alone _ (d .answer) (c .number .ensures); slice = d .cells }
 
 pub safeteal-distances-spec : {M : Type 1} → statement M
-safeteal-distances-spec = tie.close (tie.spec distances-requires number-requires same-length returns)
+safeteal-distances-spec =
+    tie.close (tie.spec (λ c κs. search needs) (λ c κs. search needs) (λ c. search needs) returns)

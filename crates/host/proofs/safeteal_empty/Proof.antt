@@ -5,14 +5,8 @@ use Rattle.rules.specs.Host.{replyWord}
 use Rattle.host.proofs.safeteal_empty.Statement.{statement}
 use Rattle.host.proofs.safeteal_empty.Tie as tie
 
-empty-requires : tie.Need-empty-requires
-empty-requires c κs = search needs
-
-reply-requires : tie.Need-reply-requires
-reply-requires c κs = search needs
-
 returns : tie.Need-returns
 returns c = c .reply .ensures ∙ ap replyWord (c .before .empty .ensures)
 
 pub safeteal-empty-spec : {M : Type 1} → statement M
-safeteal-empty-spec = tie.close (tie.spec empty-requires reply-requires returns)
+safeteal-empty-spec = tie.close (tie.spec (λ c κs. search needs) (λ c κs. search needs) returns)

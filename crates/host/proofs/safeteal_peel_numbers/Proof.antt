@@ -5,15 +5,6 @@ use Rattle.rules.specs.Host.{word as wordOf}
 use Rattle.host.proofs.safeteal_peel_numbers.Statement.{statement}
 use Rattle.host.proofs.safeteal_peel_numbers.Tie as tie
 
-peel-of-requires : tie.Need-peel-of-requires
-peel-of-requires c κs = search needs
-
-word-requires : tie.Need-word-requires
-word-requires c κs = search needs
-
-same-length : tie.Need-same-length
-same-length c = search needs
-
 returns : tie.Need-returns
 returns c =
     let d = c .before .before .before .peel-of .ensures in
@@ -21,5 +12,4 @@ returns c =
 
 pub safeteal-peel-numbers-spec : {M : Type 1} → statement M
 safeteal-peel-numbers-spec =
-    tie.close
-    (tie.spec peel-of-requires word-requires same-length returns)
+    tie.close (tie.spec (λ c κs. search needs) (λ c κs. search needs) (λ c. search needs) returns)

@@ -6,14 +6,8 @@ use Rattle.rules.specs.Host.{word as wordOf}
 use Rattle.host.proofs.safeteal_render.Statement.{statement}
 use Rattle.host.proofs.safeteal_render.Tie as tie
 
-render-requires : tie.Need-render-requires
-render-requires c κs = search needs
-
 word-requires : tie.Need-word-requires
 word-requires c κs = c .before .before .render .ensures .done .few
-
-same-length : tie.Need-same-length
-same-length c = search needs
 
 returns : tie.Need-returns
 returns c =
@@ -23,4 +17,4 @@ returns c =
     record { told = c .word .ensures ∙ ap wordOf (d .done .answered); slice = d .done .bytes }
 
 pub safeteal-render-spec : {M : Type 1} → statement M
-safeteal-render-spec = tie.close (tie.spec render-requires word-requires same-length returns)
+safeteal-render-spec = tie.close (tie.spec (λ c κs. search needs) word-requires (λ c. search needs) returns)

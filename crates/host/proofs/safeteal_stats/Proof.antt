@@ -5,21 +5,6 @@ use Rattle.host.proofs.Answers.{alone}
 use Rattle.host.proofs.safeteal_stats.Statement.{statement}
 use Rattle.host.proofs.safeteal_stats.Tie as tie
 
-stats-requires : tie.Need-stats-requires
-stats-requires c κs = search needs
-
-number-requires : tie.Need-number-requires
-number-requires c κs = search needs
-
-same-length : tie.Need-same-length
-same-length c = search needs
-
-same-length-2 : tie.Need-same-length-2
-same-length-2 c = search needs
-
-same-length-3 : tie.Need-same-length-3
-same-length-3 c = search needs
-
 returns : tie.Need-returns
 returns c =
     let on = c .before .before .before .before .before .before .before in
@@ -35,4 +20,5 @@ returns c =
 pub safeteal-stats-spec : {M : Type 1} → statement M
 safeteal-stats-spec =
     tie.close
-    (tie.spec stats-requires number-requires same-length same-length-2 same-length-3 returns)
+    (tie.spec (λ c κs. search needs) (λ c κs. search needs) (λ c. search needs) (λ c. search needs)
+    (λ c. search needs) returns)

@@ -5,15 +5,6 @@ use Rattle.rules.specs.Host.{word as wordOf}
 use Rattle.host.proofs.safeteal_unpeel_numbers.Statement.{statement}
 use Rattle.host.proofs.safeteal_unpeel_numbers.Tie as tie
 
-unpeel-of-requires : tie.Need-unpeel-of-requires
-unpeel-of-requires c κs = search needs
-
-word-requires : tie.Need-word-requires
-word-requires c κs = search needs
-
-same-length : tie.Need-same-length
-same-length c = search needs
-
 returns : tie.Need-returns
 returns c =
     let d = c .before .before .before .unpeel-of .ensures in
@@ -21,5 +12,4 @@ returns c =
 
 pub safeteal-unpeel-numbers-spec : {M : Type 1} → statement M
 safeteal-unpeel-numbers-spec =
-    tie.close
-    (tie.spec unpeel-of-requires word-requires same-length returns)
+    tie.close (tie.spec (λ c κs. search needs) (λ c κs. search needs) (λ c. search needs) returns)

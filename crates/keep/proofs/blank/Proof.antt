@@ -19,24 +19,12 @@ abbrev μ-loop : tie.MeasureT-loop
 loop-holds : tie.Need-loop-holds Inv-loop μ-loop
 loop-holds c = (fill-none (c .args .cover .now) 255, omega arith, refl)
 
-slice-write-cover : tie.Need-slice-write-cover Inv-loop μ-loop
-slice-write-cover c = search needs
-
-add-k : tie.Need-add-k Inv-loop μ-loop
-add-k c = search needs
-
-loop-less : tie.Need-loop-less Inv-loop μ-loop
-loop-less c = search needs
-
 loop-again : tie.Need-loop-again Inv-loop μ-loop
 loop-again c =
     let l = c .before in
     let inv = l .loop .inv in
     let long = inv .2 in
     (ap (λ (t : List ℕ). set t (l .loop .k) 255) (inv .0) ∙ fill-more (l .loop .k) 255 (l .before .args .cover .now) (omega arith), omega arith, simp length-set (inv .2))
-
-same-length : tie.Need-same-length Inv-loop μ-loop
-same-length c = search needs
 
 returns : tie.Need-returns Inv-loop μ-loop
 returns c =
@@ -50,13 +38,5 @@ returns c =
 pub blank-spec : {M : Type 1} → statement M
 blank-spec =
     tie.close
-    (tie.spec
-    Inv-loop
-    μ-loop
-    loop-holds
-    slice-write-cover
-    add-k
-    loop-less
-    loop-again
-    same-length
-    returns)
+    (tie.spec Inv-loop μ-loop loop-holds (λ c. search needs) (λ c. search needs) (λ c. search needs)
+    loop-again (λ c. search needs) returns)

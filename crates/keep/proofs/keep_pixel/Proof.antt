@@ -8,9 +8,6 @@ use borrow.Author.Needs.{needs}
 use Rattle.keep.proofs.keep_pixel.Statement.{statement}
 use Rattle.keep.proofs.keep_pixel.Tie as tie
 
-place-requires : tie.Need-place-requires
-place-requires c κs = search needs
-
 slice-read-if1 : tie.Need-slice-read-if1
 slice-read-if1 c =
     let s = c .before .before .before .before .before in
@@ -19,15 +16,6 @@ slice-read-if1 c =
 
 returns : tie.Need-returns
 returns c = step-none _ _ _ _ (rw (c .before .before .place .ensures) at (c .if1 .taken))
-
-verdict-at-requires : tie.Need-verdict-at-requires
-verdict-at-requires c κs = search needs
-
-cells-requires : tie.Need-cells-requires
-cells-requires c κs = search needs
-
-place-requires-2 : tie.Need-place-requires-2
-place-requires-2 c κs = search needs
 
 mark-requires : tie.Need-mark-requires
 mark-requires c κs =
@@ -38,12 +26,6 @@ mark-requires c κs =
     let at : p .place .result < length (a .kept .now) = omega (arith, p .place .ensures, pixel-in (a .models .now) (a .width) (a .height) (a .x) (a .y) (s .pre .1) (s .pre .2), s .pre .0 .kept-long) in
     let cell = rw cells at (c .before .before .place2 .ensures) in
     (at, omega (arith, cell, cell-in (a .width) (a .height) (a .x) (a .y) (s .pre .1) (s .pre .2), s .pre .0 .cover-long))
-
-same-length : tie.Need-same-length
-same-length c = search needs
-
-same-length-2 : tie.Need-same-length-2
-same-length-2 c = search needs
 
 returns-2 : tie.Need-returns-2
 returns-2 c =
@@ -59,14 +41,5 @@ returns-2 c =
 pub keep-pixel-spec : {M : Type 1} → statement M
 keep-pixel-spec =
     tie.close
-    (tie.spec
-    place-requires
-    slice-read-if1
-    returns
-    verdict-at-requires
-    cells-requires
-    place-requires-2
-    mark-requires
-    same-length
-    same-length-2
-    returns-2)
+    (tie.spec (λ c κs. search needs) slice-read-if1 returns (λ c κs. search needs) (λ c κs. search needs)
+    (λ c κs. search needs) mark-requires (λ c. search needs) (λ c. search needs) returns-2)

@@ -31,12 +31,6 @@ keep-pixel-requires c κs =
     let s = l .before .before .before .before in
     (still-sound (s .pre .0) (l .loop .inv .2) (l .loop .inv .3), c .before .before .loop-test .taken, s .pre .1)
 
-add-x : tie.Need-add-x Inv-loop μ-loop
-add-x c = search needs
-
-loop-less : tie.Need-loop-less Inv-loop μ-loop
-loop-less c = search needs
-
 loop-again : tie.Need-loop-again Inv-loop μ-loop
 unfolding scanRow
 loop-again c =
@@ -44,12 +38,6 @@ loop-again c =
     let l = c .before .before .before .before .before .before .before .before in
     let inv = l .loop .inv in
     (turns-more _ _ _ _ _ (inv .0) (pixel .ensures), omega arith, pixel .kept .0 ∙ inv .2, pixel .kept .1 .0 ∙ inv .3)
-
-same-length : tie.Need-same-length Inv-loop μ-loop
-same-length c = search needs
-
-same-length-2 : tie.Need-same-length-2 Inv-loop μ-loop
-same-length-2 c = search needs
 
 returns : tie.Need-returns Inv-loop μ-loop
 returns c =
@@ -59,14 +47,5 @@ returns c =
 pub keep-row-spec : {M : Type 1} → statement M
 keep-row-spec =
     tie.close
-    (tie.spec
-    Inv-loop
-    μ-loop
-    loop-holds
-    keep-pixel-requires
-    add-x
-    loop-less
-    loop-again
-    same-length
-    same-length-2
-    returns)
+    (tie.spec Inv-loop μ-loop loop-holds keep-pixel-requires (λ c. search needs) (λ c. search needs)
+    loop-again (λ c. search needs) (λ c. search needs) returns)

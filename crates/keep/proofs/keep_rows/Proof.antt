@@ -31,24 +31,12 @@ keep-row-requires c κs =
     let s = l .before .before .before .before in
     (still-sound (s .pre) (l .loop .inv .2) (l .loop .inv .3), c .before .before .loop-test .taken)
 
-add-y : tie.Need-add-y Inv-loop μ-loop
-add-y c = search needs
-
-loop-less : tie.Need-loop-less Inv-loop μ-loop
-loop-less c = search needs
-
 loop-again : tie.Need-loop-again Inv-loop μ-loop
 unfolding scan
 loop-again c =
     let row = c .before .before .before .before .keep-row in
     let inv = c .before .before .before .before .before .before .before .before .loop .inv in
     (turns-more _ _ _ _ _ (inv .0) (row .ensures), omega arith, row .kept .0 ∙ inv .2, row .kept .1 .0 ∙ inv .3)
-
-same-length : tie.Need-same-length Inv-loop μ-loop
-same-length c = search needs
-
-same-length-2 : tie.Need-same-length-2 Inv-loop μ-loop
-same-length-2 c = search needs
 
 returns : tie.Need-returns Inv-loop μ-loop
 returns c =
@@ -58,14 +46,5 @@ returns c =
 pub keep-rows-spec : {M : Type 1} → statement M
 keep-rows-spec =
     tie.close
-    (tie.spec
-    Inv-loop
-    μ-loop
-    loop-holds
-    keep-row-requires
-    add-y
-    loop-less
-    loop-again
-    same-length
-    same-length-2
-    returns)
+    (tie.spec Inv-loop μ-loop loop-holds keep-row-requires (λ c. search needs) (λ c. search needs) loop-again
+    (λ c. search needs) (λ c. search needs) returns)

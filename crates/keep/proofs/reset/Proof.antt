@@ -21,23 +21,11 @@ loop-holds : tie.Need-loop-holds Inv-loop μ-loop
 unfolding turns
 loop-holds c = (refl, omega arith, refl)
 
-reset-pixel-requires : tie.Need-reset-pixel-requires Inv-loop μ-loop
-reset-pixel-requires c κs = search needs
-
-add-at : tie.Need-add-at Inv-loop μ-loop
-add-at c = search needs
-
-loop-less : tie.Need-loop-less Inv-loop μ-loop
-loop-less c = search needs
-
 loop-again : tie.Need-loop-again Inv-loop μ-loop
 loop-again c =
     let pixel = c .before .before .reset-pixel in
     let inv = c .before .before .before .before .before .loop .inv in
     (turns-more _ _ _ _ _ (inv .0) (pixel .ensures), omega arith, pixel .kept .0 ∙ inv .2)
-
-same-length : tie.Need-same-length Inv-loop μ-loop
-same-length c = search needs
 
 returns : tie.Need-returns Inv-loop μ-loop
 returns c =
@@ -47,13 +35,5 @@ returns c =
 pub reset-spec : {M : Type 1} → statement M
 reset-spec =
     tie.close
-    (tie.spec
-    Inv-loop
-    μ-loop
-    loop-holds
-    reset-pixel-requires
-    add-at
-    loop-less
-    loop-again
-    same-length
-    returns)
+    (tie.spec Inv-loop μ-loop loop-holds (λ c κs. search needs) (λ c. search needs) (λ c. search needs)
+    loop-again (λ c. search needs) returns)

@@ -5,24 +5,9 @@ use Rattle.laid.proofs.Marks.{step, marked}
 use Rattle.laid.proofs.mark.Statement.{statement}
 use Rattle.laid.proofs.mark.Tie as tie
 
-slice-read-old : tie.Need-slice-read-old
-slice-read-old c = search needs
-
-kept-requires : tie.Need-kept-requires
-kept-requires c κs = search needs
-
-slice-write-output : tie.Need-slice-write-output
-slice-write-output c = search needs
-
-one-if-requires : tie.Need-one-if-requires
-one-if-requires c κs = search needs
-
 add-result : tie.Need-add-result
 add-result c =
     let s = c .before .before .before .before in omega (arith, c .one-if .ensures, step (s .args .d .put), s .pre .1)
-
-same-length : tie.Need-same-length
-same-length c = search needs
 
 returns : tie.Need-returns
 returns c =
@@ -32,11 +17,5 @@ returns c =
 pub mark-spec : {M : Type 1} → statement M
 mark-spec =
     tie.close
-    (tie.spec
-    slice-read-old
-    kept-requires
-    slice-write-output
-    one-if-requires
-    add-result
-    same-length
-    returns)
+    (tie.spec (λ c. search needs) (λ c κs. search needs) (λ c. search needs) (λ c κs. search needs) add-result
+    (λ c. search needs) returns)

@@ -4,23 +4,6 @@ use Rattle.layered.proofs.Peels.{dot-keep, dot-put}
 use borrow.Author.Needs.{needs}
 use Rattle.layered.proofs.dot.Statement.{statement}
 use Rattle.layered.proofs.dot.Tie as tie
-use Rattle.layered.proofs.dot.Reads as reads
-use Rattle.layered.proofs.dot.Lts as lts
-use Rattle.layered.proofs.byte.Reads as byte-reads
-use Rattle.lift.proofs.plain.Reads as plain-reads
-use Rattle.texel.proofs.texel.Reads as texel-reads
-
--- src/lib.rt:136:9
-texel-requires : tie.Need-texel-requires
-texel-requires c κs = search needs
-
--- src/lib.rt:137:8
-plain-requires : tie.Need-plain-requires
-plain-requires c κs = search needs
-
--- src/lib.rt:140:18
-byte-requires : tie.Need-byte-requires
-byte-requires c κs = search needs
 
 -- src/lib.rt:116:1
 returns : tie.Need-returns
@@ -37,4 +20,6 @@ returns-2 c =
     dot-put (s .args .work) _ _ _ _ (s .args .x) (s .args .y) (s .args .old) (s .pre .3) _ t (c .byte .ensures)
 
 pub dot-spec : {M : Type 1} → statement M
-dot-spec = tie.close (tie.spec texel-requires plain-requires byte-requires returns returns-2)
+dot-spec =
+    tie.close
+    (tie.spec (λ c κs. search needs) (λ c κs. search needs) (λ c κs. search needs) returns returns-2)

@@ -9,47 +9,12 @@ use Rattle.layered.proofs.Peels.{scene-lifted, scene-raw}
 use borrow.Author.Needs.{needs}
 use Rattle.layered.proofs.peeled.Statement.{statement}
 use Rattle.layered.proofs.peeled.Tie as tie
-use Rattle.layered.proofs.peeled.Reads as reads
-use Rattle.layered.proofs.peeled.Lts as lts
-use Rattle.float.proofs.pixel.Reads as pixel-reads
-use Rattle.lift.proofs.lifted.Reads as lifted-reads
-use Rattle.lift.proofs.value.Reads as value-reads
-use Rattle.sample.proofs.at.Reads as at-reads
-use Rattle.whole.proofs.rings.Reads as rings-reads
 
 -- src/lib.rt:44:24
 at-requires : tie.Need-at-requires
 at-requires c κs =
     let s = c .before .before .before .before in
     byte-asks (s .args .x) (s .args .y) (s .pre .0 .fits) (s .pre .1 .left) (s .pre .1 .above)
-
--- src/lib.rt:44:11
-lifted-requires : tie.Need-lifted-requires
-lifted-requires c κs = search needs
-
--- src/lib.rt:45:23
-enum-known-v : tie.Need-enum-known-v
-enum-known-v c = search needs
-
--- src/lib.rt:45:29
-pixel-requires : tie.Need-pixel-requires
-pixel-requires c κs = search needs
-
--- src/lib.rt:46:20
-enum-known-v-2 : tie.Need-enum-known-v-2
-enum-known-v-2 c = search needs
-
--- src/lib.rt:47:17
-rings-requires : tie.Need-rings-requires
-rings-requires c κs = search needs
-
--- src/lib.rt:48:26
-value-requires : tie.Need-value-requires
-value-requires c κs = search needs
-
--- src/lib.rt:48:13
-pixel-requires-2 : tie.Need-pixel-requires-2
-pixel-requires-2 c κs = search needs
 
 -- src/lib.rt:27:1
 returns : tie.Need-returns
@@ -81,14 +46,6 @@ returns-2 c =
 pub peeled-spec : {M : Type 1} → statement M
 peeled-spec =
     tie.close
-    (tie.spec
-    at-requires
-    lifted-requires
-    enum-known-v
-    pixel-requires
-    enum-known-v-2
-    rings-requires
-    value-requires
-    pixel-requires-2
-    returns
+    (tie.spec at-requires (λ c κs. search needs) (λ c. search needs) (λ c κs. search needs)
+    (λ c. search needs) (λ c κs. search needs) (λ c κs. search needs) (λ c κs. search needs) returns
     returns-2)

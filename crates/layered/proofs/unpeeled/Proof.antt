@@ -3,12 +3,6 @@ use Rattle.whole.proofs.Bytes.{byte-asks}
 use borrow.Author.Needs.{needs}
 use Rattle.layered.proofs.unpeeled.Statement.{statement}
 use Rattle.layered.proofs.unpeeled.Tie as tie
-use Rattle.layered.proofs.unpeeled.Reads as reads
-use Rattle.layered.proofs.unpeeled.Lts as lts
-use Rattle.float.proofs.of_byte.Reads as of-byte-reads
-use Rattle.float.proofs.pixel.Reads as pixel-reads
-use Rattle.lift.proofs.relaid.Reads as relaid-reads
-use Rattle.sample.proofs.at.Reads as at-reads
 
 -- src/lib.rt:70:9
 at-requires : tie.Need-at-requires
@@ -22,18 +16,6 @@ at-requires-2 c κs =
     let s = c .before .before .before in
     byte-asks (s .args .x) (s .args .y) (s .pre .1) (s .pre .2) (s .pre .3)
 
--- src/lib.rt:72:46
-of-byte-requires : tie.Need-of-byte-requires
-of-byte-requires c κs = search needs
-
--- src/lib.rt:72:18
-relaid-requires : tie.Need-relaid-requires
-relaid-requires c κs = search needs
-
--- src/lib.rt:72:5
-pixel-requires : tie.Need-pixel-requires
-pixel-requires c κs = search needs
-
 -- src/lib.rt:54:1
 returns : tie.Need-returns
 returns c = rw (c .pixel .ensures, c .before .relaid .ensures, c .before .before .of-byte .ensures, c .before .before .before .at2 .ensures, c .before .before .before .before .at .ensures)
@@ -41,4 +23,5 @@ returns c = rw (c .pixel .ensures, c .before .relaid .ensures, c .before .before
 pub unpeeled-spec : {M : Type 1} → statement M
 unpeeled-spec =
     tie.close
-    (tie.spec at-requires at-requires-2 of-byte-requires relaid-requires pixel-requires returns)
+    (tie.spec at-requires at-requires-2 (λ c κs. search needs) (λ c κs. search needs) (λ c κs. search needs)
+    returns)

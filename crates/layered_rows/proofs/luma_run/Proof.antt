@@ -1,8 +1,8 @@
 -- `layered_rows::luma_run` meets its contract. Assumes nothing.
 use borrow.Author.Needs.{needs}
 use mathlib.Core.Path.{_≡_, refl, _∙_}
-use Prim.Native.Nat.{ℕ, _-_, _≤_, _<_}
-use native.Mathlib.Nat.{le-antisymm}
+use Prim.Native.Nat.{ℕ, _+_, _-_, _≤_, _<_}
+use native.Mathlib.Nat.{add-zero, le-antisymm}
 use native.Mathlib.Omega.{arith}
 use lib.ListN.{length}
 use Rattle.lent.specs.Lent.{lay, Inside}
@@ -10,14 +10,14 @@ use Rattle.whole.proofs.Bytes.{byte-asks}
 use Rattle.layered.specs.declared.Work.the-variants.{Unpeel}
 use Rattle.layered.specs.Works.{ruleOf}
 use Rattle.layered_rows.specs.Rows.{RowOn}
-use Rattle.layered_rows.proofs.Cells.{run-none, run-more}
-use Rattle.layered_rows.proofs.Luma.{numbers-in, laid-dot}
+use Rattle.layered_rows.proofs.Cells.{run-none}
+use Rattle.layered_rows.proofs.Laid.{laid-more}
 use Rattle.layered_rows.proofs.luma_run.Statement.{statement}
 use Rattle.layered_rows.proofs.luma_run.Tie as tie
 
 abbrev Inv-loop : tie.InvT-loop
 Inv-loop output₀ opitch count time p l lb a ab b bb first fpitch second spitch y from to n₀ x₀ output n x =
-    RowOn (ruleOf (Unpeel time) (lay (p .shape) l lb a ab b bb) (p .shape .plane) (record { bytes = first; pitch = fpitch }) (record { bytes = second; pitch = spitch })) opitch y from x count output₀ output n
+    RowOn (ruleOf (Unpeel time) (lay (p .shape) l lb a ab b bb) (p .shape .plane) (record { bytes = first; pitch = fpitch }) (record { bytes = second; pitch = spitch })) opitch y from x count output₀ output (count + n)
     × (from ≤ x)
     × (x ≤ to)
     × (length output ≡ length output₀)
@@ -30,10 +30,7 @@ inside : (s : tie.Start Inv-loop μ-loop) (x : ℕ) → x < s .args .to → Insi
 inside s x below = record { left = omega (arith, s .pre .1 .within, below); above = s .pre .1 .above }
 
 loop-holds : tie.Need-loop-holds Inv-loop μ-loop
-loop-holds c = (run-none _ _ _ _ _ _, omega arith, omega arith, refl)
-
-place-requires : tie.Need-place-requires Inv-loop μ-loop
-place-requires c κs = search needs
+loop-holds c = (rw add-zero (run-none _ _ _ _ _ _), omega arith, omega arith, refl)
 
 slice-read-old : tie.Need-slice-read-old Inv-loop μ-loop
 slice-read-old c =
@@ -41,51 +38,52 @@ slice-read-old c =
     let at-loop = c .before .before .before .loop in
     omega (arith, c .before .place .ensures, s .pre .1 .room, at-loop .inv .3, c .before .before .loop-test .taken)
 
+luma-requires : tie.Need-luma-requires Inv-loop μ-loop
+luma-requires c κs =
+    let s = c .before .before .before .before .before .before .before .before .before .before in
+    (s .pre .0 .ready .sound, inside s (c .before .before .before .loop .x) (c .before .before .loop-test .taken), s .pre .3)
+
 laid-requires : tie.Need-laid-requires Inv-loop μ-loop
 laid-requires c κs =
-    let s = c .before .before .before .before .before .before .before .before .before .before in
-    let at-loop = c .before .before .before .loop in
-    let i = inside s (at-loop .x) (c .before .before .loop-test .taken) in (
-      numbers-in (s .args .p) _ (at-loop .x) (s .args .y) (s .pre .0 .ready .sound .planned) i (s .pre .0 .ready .sound .luma-long) (s .pre .3),
-      byte-asks (at-loop .x) (s .args .y) (s .pre .0 .ready .fits) (i .left) (i .above),
-      byte-asks (at-loop .x) (s .args .y) (s .pre .0 .fits) (i .left) (i .above),
-    )
+    let s = c .before .before .before .before .before .before .before .before .before .before .before in
+    let at-loop = c .before .before .before .before .loop in
+    let i = inside s (at-loop .x) (c .before .before .before .loop-test .taken) in
+    (byte-asks (at-loop .x) (s .args .y) (s .pre .0 .ready .fits) (i .left) (i .above), byte-asks (at-loop .x) (s .args .y) (s .pre .0 .fits) (i .left) (i .above))
 
 mark-requires : tie.Need-mark-requires Inv-loop μ-loop
 mark-requires c κs =
-    let s = c .before .before .before .before .before .before .before .before .before .before .before .before in
-    let at-loop = c .before .before .before .before .before .loop in
-    let below = c .before .before .before .before .loop-test .taken in (
-      omega (arith, c .before .before .before .place .ensures, s .pre .1 .room, at-loop .inv .3, below),
-      omega (arith, at-loop .inv .0 .few, s .pre .1 .few, below, at-loop .inv .1),
+    let placed = c .before .before .before .before in
+    let s = placed .before .before .before .before .before .before .before .before .before in
+    let at-loop = placed .before .before .loop in
+    let below = placed .before .loop-test .taken in (
+      omega (arith, placed .place .ensures, s .pre .1 .room, at-loop .inv .3, below),
+      omega (arith, at-loop .inv .0 .few, s .pre .1 .few, below, at-loop .inv .1, s .pre .1 .within, s .pre .0 .ready .sound .planned .wide .1),
     )
 
 add-x : tie.Need-add-x Inv-loop μ-loop
-add-x c = search needs
-
-loop-less : tie.Need-loop-less Inv-loop μ-loop
-loop-less c = search needs
+add-x c =
+    let placed = c .before .before .before .before .before .before .before in
+    let s = placed .before .before .before .before .before .before .before .before .before in
+    omega (arith, placed .before .loop-test .taken, s .pre .1 .within, s .pre .0 .ready .sound .planned .wide .1)
 
 loop-again : tie.Need-loop-again Inv-loop μ-loop
 loop-again c =
     let marked = c .before .before in
     let ruled = marked .before .before in
-    let placed = ruled .before .before in
+    let placed = ruled .before .before .before in
     let at-loop = placed .before .before .loop in
     let s = placed .before .before .before .before .before .before .before .before .before in
     let a = s .args in
-    let inv = at-loop .inv in
-    let below = placed .before .loop-test .taken in
-    let e = placed .place .ensures in
-    let d = laid-dot (lay (a .p .shape) (a .l .now) (a .lb .now) (a .a .now) (a .ab .now) (a .b .now) (a .bb .now)) (a .p .shape .plane) (s .pre .3) (at-loop .x) (a .y) (record { bytes = a .first .now; pitch = a .fpitch }) (record { bytes = a .second .now; pitch = a .spitch }) (a .time) _ (ruled .laid .result) (s .pre .2 (at-loop .x) (inv .1) below) (ruled .laid .ensures) in (
-      run-more (inv .1) (inv .0) (rw e at d) (rw e at (marked .mark .ensures)),
+    let near = s .pre .2 (at-loop .x) (at-loop .inv .1) (placed .before .loop-test .taken) in
+    let e = placed .place .ensures in (
+      laid-more _ _ (record { bytes = a .first .now; pitch = a .fpitch }) (record { bytes = a .second .now; pitch = a .spitch }) (a .time) (ruled .before .luma .ensures) (rw e at (ruled .laid .ensures)) near (at-loop .inv .1) (at-loop .inv .0) (rw e at (marked .mark .ensures)),
       omega arith,
       omega arith,
-      marked .mark .kept .0 ∙ inv .3,
+      marked .mark .kept .0 ∙ at-loop .inv .3,
     )
 
-same-length : tie.Need-same-length Inv-loop μ-loop
-same-length c = search needs
+add-result : tie.Need-add-result Inv-loop μ-loop
+add-result c = let s = c .before .before .before .before .before .before .before .before in omega (arith, c .before .loop .inv .0 .few, s .pre .1 .few, c .before .loop .inv .2)
 
 returns : tie.Need-returns Inv-loop μ-loop
 returns c =
@@ -95,16 +93,6 @@ returns c =
 pub luma-run-spec : {M : Type 1} → statement M
 luma-run-spec =
     tie.close
-    (tie.spec
-    Inv-loop
-    μ-loop
-    loop-holds
-    place-requires
-    slice-read-old
-    laid-requires
-    mark-requires
-    add-x
-    loop-less
-    loop-again
-    same-length
+    (tie.spec Inv-loop μ-loop loop-holds (λ c κs. search needs) slice-read-old luma-requires laid-requires
+    mark-requires add-x (λ c. search needs) loop-again (λ c. search needs) add-result (λ c. search needs)
     returns)

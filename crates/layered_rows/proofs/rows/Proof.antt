@@ -12,9 +12,6 @@ use Rattle.layered.specs.Works.{ruleOf}
 use Rattle.layered_rows.proofs.Cells.{row-in}
 use Rattle.layered_rows.proofs.rows.Statement.{statement}
 use Rattle.layered_rows.proofs.rows.Tie as tie
-use Rattle.layered_rows.proofs.rows.Reads as reads
-use Rattle.layered_rows.proofs.rows.Lts as lts
-use Rattle.layered_rows.proofs.row.Reads as row-reads
 
 abbrev Inv-loop : tie.InvT-loop
 Inv-loop output₀ opitch work p l lb a ab b bb first fpitch second spitch n₀ y₀ output n y =
@@ -47,14 +44,6 @@ row-requires c κs =
       },
     )
 
--- src/lib.rt:204:9
-add-y : tie.Need-add-y Inv-loop μ-loop
-add-y c = search needs
-
--- src/lib.rt:185:5
-loop-less : tie.Need-loop-less Inv-loop μ-loop
-loop-less c = search needs
-
 -- src/lib.rt:185:5
 loop-again : tie.Need-loop-again Inv-loop μ-loop
 loop-again c =
@@ -65,10 +54,6 @@ loop-again c =
     (rows-more (h .wide .1) (inv .0) (done .row .ensures), omega arith, done .row .kept .0 ∙ inv .2)
 
 -- src/lib.rt:164:1
-same-length : tie.Need-same-length Inv-loop μ-loop
-same-length c = search needs
-
--- src/lib.rt:164:1
 returns : tie.Need-returns Inv-loop μ-loop
 returns c =
     let at-loop = c .before .before .loop in
@@ -77,13 +62,5 @@ returns c =
 pub rows-spec : {M : Type 1} → statement M
 rows-spec =
     tie.close
-    (tie.spec
-    Inv-loop
-    μ-loop
-    loop-holds
-    row-requires
-    add-y
-    loop-less
-    loop-again
-    same-length
-    returns)
+    (tie.spec Inv-loop μ-loop loop-holds row-requires (λ c. search needs) (λ c. search needs) loop-again
+    (λ c. search needs) returns)

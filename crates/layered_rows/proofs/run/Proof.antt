@@ -11,11 +11,6 @@ use Rattle.layered_rows.specs.Rows.{RowOn}
 use Rattle.layered_rows.proofs.Cells.{run-none, run-more}
 use Rattle.layered_rows.proofs.run.Statement.{statement}
 use Rattle.layered_rows.proofs.run.Tie as tie
-use Rattle.layered_rows.proofs.run.Reads as reads
-use Rattle.layered_rows.proofs.run.Lts as lts
-use Rattle.layered.proofs.dot.Reads as dot-reads
-use Rattle.plane.proofs.place.Reads as place-reads
-use Rattle.plane.proofs.stamp.Reads as stamp-reads
 
 abbrev Inv-loop : tie.InvT-loop
 Inv-loop output₀ opitch count work p l lb a ab b bb first fpitch second spitch y from to n₀ x₀ output n x =
@@ -30,10 +25,6 @@ abbrev μ-loop : tie.MeasureT-loop
 -- src/lib.rt:36:5
 loop-holds : tie.Need-loop-holds Inv-loop μ-loop
 loop-holds c = (run-none _ _ _ _ _ _, omega arith, omega arith, refl)
-
--- src/lib.rt:37:13
-place-requires : tie.Need-place-requires Inv-loop μ-loop
-place-requires c κs = search needs
 
 -- src/lib.rt:38:19
 slice-read-old : tie.Need-slice-read-old Inv-loop μ-loop
@@ -64,14 +55,6 @@ stamp-requires c κs =
       omega (arith, at-loop .inv .0 .few, s .pre .1 .few, below, at-loop .inv .1),
     )
 
--- src/lib.rt:57:9
-add-x : tie.Need-add-x Inv-loop μ-loop
-add-x c = search needs
-
--- src/lib.rt:36:5
-loop-less : tie.Need-loop-less Inv-loop μ-loop
-loop-less c = search needs
-
 -- src/lib.rt:36:5
 loop-again : tie.Need-loop-again Inv-loop μ-loop
 loop-again c =
@@ -88,10 +71,6 @@ loop-again c =
     )
 
 -- src/lib.rt:11:1
-same-length : tie.Need-same-length Inv-loop μ-loop
-same-length c = search needs
-
--- src/lib.rt:11:1
 returns : tie.Need-returns Inv-loop μ-loop
 returns c =
     let at-loop = c .before .loop in
@@ -100,16 +79,5 @@ returns c =
 pub run-spec : {M : Type 1} → statement M
 run-spec =
     tie.close
-    (tie.spec
-    Inv-loop
-    μ-loop
-    loop-holds
-    place-requires
-    slice-read-old
-    dot-requires
-    stamp-requires
-    add-x
-    loop-less
-    loop-again
-    same-length
-    returns)
+    (tie.spec Inv-loop μ-loop loop-holds (λ c κs. search needs) slice-read-old dot-requires stamp-requires
+    (λ c. search needs) (λ c. search needs) loop-again (λ c. search needs) returns)

@@ -3,10 +3,7 @@ use mathlib.Core.Path.{refl}
 use Rattle.rules.specs.Scene.{gathered}
 use Rattle.lift.proofs.added.Statement.{statement}
 use Rattle.lift.proofs.added.Tie as tie
-use Rattle.lift.proofs.added.Reads as reads
-use Rattle.lift.proofs.added.Lts as lts
 
--- src/lib.rt:45:1
 returns : tie.Need-returns
 unfolding gathered
 returns c = refl

@@ -3,15 +3,11 @@ use mathlib.Core.Path.{sym}
 use Rattle.rules.specs.Scene.{meanOr}
 use Rattle.lift.proofs.mean_or.Statement.{statement}
 use Rattle.lift.proofs.mean_or.Tie as tie
-use Rattle.lift.proofs.mean_or.Reads as reads
-use Rattle.lift.proofs.mean_or.Lts as lts
 
--- src/lib.rt:55:1
 returns : tie.Need-returns
 unfolding meanOr
 returns c = sym (simp (c .before .if1 .taken))
 
--- src/lib.rt:55:1
 returns-2 : tie.Need-returns-2
 unfolding meanOr
 returns-2 c = sym (simp (c .if1 .left))

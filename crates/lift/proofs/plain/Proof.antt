@@ -4,8 +4,6 @@ use mathlib.Core.Bool.{Bool, true, false, _&&_, false≢true}
 use Rattle.rules.specs.Model.{isPlain}
 use Rattle.lift.proofs.plain.Statement.{statement}
 use Rattle.lift.proofs.plain.Tie as tie
-use Rattle.lift.proofs.plain.Reads as reads
-use Rattle.lift.proofs.plain.Lts as lts
 
 -- an `&&` whose first test held
 rest : (a b : Bool) → a ≡ true → b ≡ (a && b)
@@ -16,7 +14,6 @@ returns : tie.Need-returns
 unfolding isPlain
 returns c = rest _ _ (c .before .if1 .taken)
 
--- src/lib.rt:10:1
 returns-2 : tie.Need-returns-2
 unfolding isPlain
 returns-2 c = sym (simp (c .if1 .left))

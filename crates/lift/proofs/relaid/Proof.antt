@@ -9,30 +9,6 @@ use Rattle.lift.proofs.Sides.{weak-sides, near-sides, picked}
 use Rattle.lift.proofs.relaid.Statement.{statement}
 use Rattle.lift.proofs.relaid.Tie as tie
 
-mix-requires : tie.Need-mix-requires
-mix-requires c κs = search needs
-
-lift-requires : tie.Need-lift-requires
-lift-requires c κs = search needs
-
-lift-requires-2 : tie.Need-lift-requires-2
-lift-requires-2 c κs = search needs
-
-median-requires : tie.Need-median-requires
-median-requires c κs = search needs
-
-chosen-requires : tie.Need-chosen-requires
-chosen-requires c κs = search needs
-
-chosen-requires-2 : tie.Need-chosen-requires-2
-chosen-requires-2 c κs = search needs
-
-chosen-requires-3 : tie.Need-chosen-requires-3
-chosen-requires-3 c κs = search needs
-
-chosen-requires-4 : tie.Need-chosen-requires-4
-chosen-requires-4 c κs = search needs
-
 returns : tie.Need-returns
 unfolding relaid
 returns c =
@@ -46,13 +22,5 @@ returns c =
 pub relaid-spec : {M : Type 1} → statement M
 relaid-spec =
     tie.close
-    (tie.spec
-    mix-requires
-    lift-requires
-    lift-requires-2
-    median-requires
-    chosen-requires
-    chosen-requires-2
-    chosen-requires-3
-    chosen-requires-4
-    returns)
+    (tie.spec (λ c κs. search needs) (λ c κs. search needs) (λ c κs. search needs) (λ c κs. search needs)
+    (λ c κs. search needs) (λ c κs. search needs) (λ c κs. search needs) (λ c κs. search needs) returns)

@@ -3,14 +3,8 @@ use borrow.Author.Needs.{needs}
 use Rattle.limits.proofs.each_of_two.Statement.{statement}
 use Rattle.limits.proofs.each_of_two.Tie as tie
 
-both-requires : tie.Need-both-requires
-both-requires c κs = search needs
-
-both-requires-2 : tie.Need-both-requires-2
-both-requires-2 c κs = search needs
-
 returns : tie.Need-returns
 returns c = rw (c .both2 .ensures, c .before .both .ensures)
 
 pub each-of-two-spec : {M : Type 1} → statement M
-each-of-two-spec = tie.close (tie.spec both-requires both-requires-2 returns)
+each-of-two-spec = tie.close (tie.spec (λ c κs. search needs) (λ c κs. search needs) returns)

@@ -5,39 +5,6 @@ use mir.Syntax.{w32}
 use Rattle.limits.proofs.motion_numbers.Statement.{statement}
 use Rattle.limits.proofs.motion_numbers.Tie as tie
 
-sized-requires : tie.Need-sized-requires
-sized-requires c κs = search needs
-
-sized-requires-2 : tie.Need-sized-requires-2
-sized-requires-2 c κs = search needs
-
-both-requires : tie.Need-both-requires
-both-requires c κs = search needs
-
-spans-requires : tie.Need-spans-requires
-spans-requires c κs = search needs
-
-spans-requires-2 : tie.Need-spans-requires-2
-spans-requires-2 c κs = search needs
-
-all-requires : tie.Need-all-requires
-all-requires c κs = search needs
-
-spans-requires-3 : tie.Need-spans-requires-3
-spans-requires-3 c κs = search needs
-
-spans-requires-4 : tie.Need-spans-requires-4
-spans-requires-4 c κs = search needs
-
-all-requires-2 : tie.Need-all-requires-2
-all-requires-2 c κs = search needs
-
-pelled-requires : tie.Need-pelled-requires
-pelled-requires c κs = search needs
-
-both-requires-2 : tie.Need-both-requires-2
-both-requires-2 c κs = search needs
-
 returns : tie.Need-returns
 returns c =
     let origins = c .before .before .before in
@@ -50,16 +17,6 @@ returns c =
 pub motion-numbers-spec : {M : Type 1} → statement M
 motion-numbers-spec =
     tie.close
-    (tie.spec
-    sized-requires
-    sized-requires-2
-    both-requires
-    spans-requires
-    spans-requires-2
-    all-requires
-    spans-requires-3
-    spans-requires-4
-    all-requires-2
-    pelled-requires
-    both-requires-2
-    returns)
+    (tie.spec (λ c κs. search needs) (λ c κs. search needs) (λ c κs. search needs) (λ c κs. search needs)
+    (λ c κs. search needs) (λ c κs. search needs) (λ c κs. search needs) (λ c κs. search needs)
+    (λ c κs. search needs) (λ c κs. search needs) (λ c κs. search needs) returns)

@@ -26,15 +26,6 @@ loop-holds : tie.Need-loop-holds Inv-loop μ-loop
 unfolding filled turns
 loop-holds c = (refl, omega arith)
 
-slice-read-still : tie.Need-slice-read-still Inv-loop μ-loop
-slice-read-still c = search needs
-
-slice-write-still : tie.Need-slice-write-still Inv-loop μ-loop
-slice-write-still c = search needs
-
-add-k : tie.Need-add-k Inv-loop μ-loop
-add-k c = search needs
-
 loop-less : tie.Need-loop-less Inv-loop μ-loop
 loop-less c = omega (arith, long (c .before .before))
 
@@ -59,14 +50,5 @@ returns c =
 pub halve-spec : {M : Type 1} → statement M
 halve-spec =
     tie.close
-    (tie.spec
-    Inv-loop
-    μ-loop
-    loop-holds
-    slice-read-still
-    slice-write-still
-    add-k
-    loop-less
-    loop-again
-    same-length
-    returns)
+    (tie.spec Inv-loop μ-loop loop-holds (λ c. search needs) (λ c. search needs) (λ c. search needs) loop-less
+    loop-again same-length returns)

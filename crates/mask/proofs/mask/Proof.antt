@@ -9,12 +9,6 @@ use borrow.Author.Needs.{needs}
 use Rattle.mask.proofs.mask.Statement.{statement}
 use Rattle.mask.proofs.mask.Tie as tie
 
-mask-refusal-requires : tie.Need-mask-refusal-requires
-mask-refusal-requires c κs = search needs
-
-same-length : tie.Need-same-length
-same-length c = search needs
-
 returns : tie.Need-returns
 returns c = refused _ _ _ _ (c .before .mask-refusal .ensures _) (c .if1 .taken)
 
@@ -39,12 +33,6 @@ mark-rows-requires c κs =
     let r = runs p q (a .width) (a .height) s (a .still .now) (sym (tested .before .mask-refusal .ensures s) ∙ tested .if1 .left) in
     (plane-as-long (r .0) (first .same-rows .kept .0), r .3)
 
-halve-requires : tie.Need-halve-requires
-halve-requires c κs = search needs
-
-same-length-2 : tie.Need-same-length-2
-same-length-2 c = search needs
-
 returns-2 : tie.Need-returns-2
 returns-2 c =
     let third = c .before .before in
@@ -63,12 +51,5 @@ returns-2 c =
 pub mask-spec : {M : Type 1} → statement M
 mask-spec =
     tie.close
-    (tie.spec
-    mask-refusal-requires
-    same-length
-    returns
-    same-rows-requires
-    mark-rows-requires
-    halve-requires
-    same-length-2
-    returns-2)
+    (tie.spec (λ c κs. search needs) (λ c. search needs) returns same-rows-requires mark-rows-requires
+    (λ c κs. search needs) (λ c. search needs) returns-2)

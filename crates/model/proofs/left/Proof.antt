@@ -4,12 +4,9 @@ use borrow.Author.Needs.{needs}
 use Rattle.model.proofs.left.Statement.{statement}
 use Rattle.model.proofs.left.Tie as tie
 
-max-requires : tie.Need-max-requires
-max-requires c κs = search needs
-
 returns : tie.Need-returns
 unfolding left
 returns c = c .max .ensures
 
 pub left-spec : {M : Type 1} → statement M
-left-spec = tie.close (tie.spec max-requires returns)
+left-spec = tie.close (tie.spec (λ c κs. search needs) returns)

@@ -4,12 +4,6 @@ use borrow.Author.Needs.{needs}
 use Rattle.model.proofs.set.Statement.{statement}
 use Rattle.model.proofs.set.Tie as tie
 
-abs-requires : tie.Need-abs-requires
-abs-requires c κs = search needs
-
-abs-requires-2 : tie.Need-abs-requires-2
-abs-requires-2 c κs = search needs
-
 returns : tie.Need-returns
 unfolding set
 returns c =
@@ -23,4 +17,4 @@ returns-2 c =
     rw (c .abs2 .ensures) (rw t)
 
 pub set-spec : {M : Type 1} → statement M
-set-spec = tie.close (tie.spec abs-requires abs-requires-2 returns returns-2)
+set-spec = tie.close (tie.spec (λ c κs. search needs) (λ c κs. search needs) returns returns-2)

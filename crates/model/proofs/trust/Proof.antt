@@ -4,18 +4,6 @@ use borrow.Author.Needs.{needs}
 use Rattle.model.proofs.trust.Statement.{statement}
 use Rattle.model.proofs.trust.Tie as tie
 
-max-requires : tie.Need-max-requires
-max-requires c κs = search needs
-
-clamp-requires : tie.Need-clamp-requires
-clamp-requires c κs = search needs
-
-clamp-requires-2 : tie.Need-clamp-requires-2
-clamp-requires-2 c κs = search needs
-
-clamp-requires-3 : tie.Need-clamp-requires-3
-clamp-requires-3 c κs = search needs
-
 returns : tie.Need-returns
 unfolding trust
 returns c = rw (c .before .if1 .taken, c .clamp3 .ensures, c .before .before .clamp2 .ensures, c .before .before .before .clamp .ensures, c .before .before .before .before .max .ensures)
@@ -27,4 +15,5 @@ returns-2 c = rw (c .if1 .left, c .before .clamp2 .ensures, c .before .before .c
 pub trust-spec : {M : Type 1} → statement M
 trust-spec =
     tie.close
-    (tie.spec max-requires clamp-requires clamp-requires-2 clamp-requires-3 returns returns-2)
+    (tie.spec (λ c κs. search needs) (λ c κs. search needs) (λ c κs. search needs) (λ c κs. search needs)
+    returns returns-2)

@@ -4,15 +4,6 @@ use mathlib.Core.Path.{refl}
 use Rattle.motion.proofs.around.Statement.{statement}
 use Rattle.motion.proofs.around.Tie as tie
 
-columns-requires : tie.Need-columns-requires
-columns-requires c κs = search needs
-
-after-requires : tie.Need-after-requires
-after-requires c κs = search needs
-
-columns-requires-2 : tie.Need-columns-requires-2
-columns-requires-2 c κs = search needs
-
 returns : tie.Need-returns
 returns c =
     record {
@@ -22,4 +13,5 @@ returns c =
     }
 
 pub around-spec : {M : Type 1} → statement M
-around-spec = tie.close (tie.spec columns-requires after-requires columns-requires-2 returns)
+around-spec =
+    tie.close (tie.spec (λ c κs. search needs) (λ c κs. search needs) (λ c κs. search needs) returns)

@@ -5,21 +5,6 @@ use Rattle.motion.proofs.Fields.{back}
 use Rattle.motion.proofs.column_taps.Statement.{statement}
 use Rattle.motion.proofs.column_taps.Tie as tie
 
-of-size-requires : tie.Need-of-size-requires
-of-size-requires c κs = search needs
-
-of-size-requires-2 : tie.Need-of-size-requires-2
-of-size-requires-2 c κs = search needs
-
-of-int-requires : tie.Need-of-int-requires
-of-int-requires c κs = search needs
-
-of-int-requires-2 : tie.Need-of-int-requires-2
-of-int-requires-2 c κs = search needs
-
-taps-requires : tie.Need-taps-requires
-taps-requires c κs = search needs
-
 returns : tie.Need-returns
 unfolding columnTaps
 returns c =
@@ -35,10 +20,5 @@ returns c =
 pub column-taps-spec : {M : Type 1} → statement M
 column-taps-spec =
     tie.close
-    (tie.spec
-    of-size-requires
-    of-size-requires-2
-    of-int-requires
-    of-int-requires-2
-    taps-requires
-    returns)
+    (tie.spec (λ c κs. search needs) (λ c κs. search needs) (λ c κs. search needs) (λ c κs. search needs)
+    (λ c κs. search needs) returns)

@@ -6,21 +6,6 @@ use Rattle.motion.specs.Moves.{columnAt, columnsOf}
 use Rattle.motion.proofs.columns.Statement.{statement}
 use Rattle.motion.proofs.columns.Tie as tie
 
-scale-requires : tie.Need-scale-requires
-scale-requires c κs = search needs
-
-column-requires : tie.Need-column-requires
-column-requires c κs = search needs
-
-column-requires-2 : tie.Need-column-requires-2
-column-requires-2 c κs = search needs
-
-column-requires-3 : tie.Need-column-requires-3
-column-requires-3 c κs = search needs
-
-column-requires-4 : tie.Need-column-requires-4
-column-requires-4 c κs = search needs
-
 returns : tie.Need-returns
 unfolding columnAt columnsOf column
 returns c =
@@ -30,10 +15,5 @@ returns c =
 pub columns-spec : {M : Type 1} → statement M
 columns-spec =
     tie.close
-    (tie.spec
-    scale-requires
-    column-requires
-    column-requires-2
-    column-requires-3
-    column-requires-4
-    returns)
+    (tie.spec (λ c κs. search needs) (λ c κs. search needs) (λ c κs. search needs) (λ c κs. search needs)
+    (λ c κs. search needs) returns)

@@ -5,9 +5,6 @@ use Rattle.motion.proofs.Fields.{entry-in}
 use Rattle.motion.proofs.entry.Statement.{statement}
 use Rattle.motion.proofs.entry.Tie as tie
 
-place-requires : tie.Need-place-requires
-place-requires c κs = search needs
-
 mul-result : tie.Need-mul-result
 mul-result c =
     let s = c .before .before in
@@ -21,13 +18,10 @@ shared-slice-read-result c =
     let a = s .args in
     rw (c .before .place .ensures) (entry-in (a .width) (a .height) (a .field .now) (a .x) (a .y) (s .pre .0) (s .pre .3) (s .pre .4))
 
-int-to-float-result : tie.Need-int-to-float-result
-int-to-float-result c = search needs
-
 returns : tie.Need-returns
 returns c = rw (c .before .before .place .ensures)
 
 pub entry-spec : {M : Type 1} → statement M
 entry-spec =
     tie.close
-    (tie.spec place-requires mul-result shared-slice-read-result int-to-float-result returns)
+    (tie.spec (λ c κs. search needs) mul-result shared-slice-read-result (λ c. search needs) returns)

@@ -14,15 +14,6 @@ mul-of-size c =
 of-size-requires : tie.Need-of-size-requires
 of-size-requires c κs = scaled (c .args .y) (c .args .ratio) (c .pre .1) (c .pre .0 .few)
 
-of-int-requires : tie.Need-of-int-requires
-of-int-requires c κs = search needs
-
-of-int-requires-2 : tie.Need-of-int-requires-2
-of-int-requires-2 c κs = search needs
-
-taps-requires : tie.Need-taps-requires
-taps-requires c κs = search needs
-
 returns : tie.Need-returns
 unfolding rowTaps
 returns c =
@@ -38,4 +29,5 @@ returns c =
 pub row-taps-spec : {M : Type 1} → statement M
 row-taps-spec =
     tie.close
-    (tie.spec mul-of-size of-size-requires of-int-requires of-int-requires-2 taps-requires returns)
+    (tie.spec mul-of-size of-size-requires (λ c κs. search needs) (λ c κs. search needs)
+    (λ c κs. search needs) returns)

@@ -4,12 +4,6 @@ use Rattle.rules.specs.Motion.{taps}
 use Rattle.motion.proofs.taps.Statement.{statement}
 use Rattle.motion.proofs.taps.Tie as tie
 
-held-requires : tie.Need-held-requires
-held-requires c κs = search needs
-
-between-requires : tie.Need-between-requires
-between-requires c κs = search needs
-
 returns : tie.Need-returns
 unfolding taps
 returns c =
@@ -17,4 +11,4 @@ returns c =
     record { is = rw (b .is, c .before .held .ensures .is); first-in = b .first-in; second-in = b .second-in }
 
 pub taps-spec : {M : Type 1} → statement M
-taps-spec = tie.close (tie.spec held-requires between-requires returns)
+taps-spec = tie.close (tie.spec (λ c κs. search needs) (λ c κs. search needs) returns)

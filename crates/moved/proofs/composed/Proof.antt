@@ -11,9 +11,6 @@ use borrow.Author.Needs.{needs}
 use Rattle.moved.proofs.composed.Statement.{statement}
 use Rattle.moved.proofs.composed.Tie as tie
 
-texel-requires : tie.Need-texel-requires
-texel-requires c κs = search needs
-
 at-requires : tie.Need-at-requires
 at-requires c κs =
     let s = c .before .before .before in
@@ -28,21 +25,6 @@ at-requires-2 c κs =
     let b = byte-in (s .args .x) (s .args .y) f (s .pre .1 .left) (s .pre .1 .above) in
     omega arith
 
-plain-requires : tie.Need-plain-requires
-plain-requires c κs = search needs
-
-both-requires : tie.Need-both-requires
-both-requires c κs = search needs
-
-kept-requires : tie.Need-kept-requires
-kept-requires c κs = search needs
-
-mix-requires : tie.Need-mix-requires
-mix-requires c κs = search needs
-
-pixel-requires : tie.Need-pixel-requires
-pixel-requires c κs = search needs
-
 returns : tie.Need-returns
 unfolding byteBy layered
 returns c =
@@ -51,15 +33,6 @@ returns c =
     let s = at2 .before .before .before .before .before in
     let t = rw (tested .before .kept .ensures, tested .before .before .both .ensures, tested .before .before .before .plain .ensures, at2 .at2 .ensures, at2 .before .at .ensures, at2 .before .before .texel .ensures, s .pre .2) at (tested .if1 .taken) in
     rw (c .pixel .ensures, c .before .mix .ensures, at2 .at2 .ensures, at2 .before .at .ensures) (ap pixel (kept-is _ _ _ _ _ _ t))
-
-base-requires : tie.Need-base-requires
-base-requires c κs = search needs
-
-seen-requires : tie.Need-seen-requires
-seen-requires c κs = search needs
-
-pixel-requires-2 : tie.Need-pixel-requires-2
-pixel-requires-2 c κs = search needs
 
 returns-2 : tie.Need-returns-2
 unfolding byteBy layered
@@ -87,17 +60,6 @@ returns-2 c =
 pub composed-spec : {M : Type 1} → statement M
 composed-spec =
     tie.close
-    (tie.spec
-    texel-requires
-    at-requires
-    at-requires-2
-    plain-requires
-    both-requires
-    kept-requires
-    mix-requires
-    pixel-requires
-    returns
-    base-requires
-    seen-requires
-    pixel-requires-2
-    returns-2)
+    (tie.spec (λ c κs. search needs) at-requires at-requires-2 (λ c κs. search needs) (λ c κs. search needs)
+    (λ c κs. search needs) (λ c κs. search needs) (λ c κs. search needs) returns (λ c κs. search needs)
+    (λ c κs. search needs) (λ c κs. search needs) returns-2)

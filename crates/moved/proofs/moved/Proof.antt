@@ -7,33 +7,6 @@ use borrow.Author.Needs.{needs}
 use Rattle.moved.proofs.moved.Statement.{statement}
 use Rattle.moved.proofs.moved.Tie as tie
 
-shifted-requires : tie.Need-shifted-requires
-shifted-requires c κs = search needs
-
-shifted-requires-2 : tie.Need-shifted-requires-2
-shifted-requires-2 c κs = search needs
-
-between-requires : tie.Need-between-requires
-between-requires c κs = search needs
-
-between-requires-2 : tie.Need-between-requires-2
-between-requires-2 c κs = search needs
-
-model-by-requires : tie.Need-model-by-requires
-model-by-requires c κs = search needs
-
-sample-at-requires : tie.Need-sample-at-requires
-sample-at-requires c κs = search needs
-
-lifted-requires : tie.Need-lifted-requires
-lifted-requires c κs = search needs
-
-filled-requires : tie.Need-filled-requires
-filled-requires c κs = search needs
-
-is-on-requires : tie.Need-is-on-requires
-is-on-requires c κs = search needs
-
 returns : tie.Need-returns
 unfolding movedOf scene under
 returns c =
@@ -49,14 +22,6 @@ returns c =
 pub moved-spec : {M : Type 1} → statement M
 moved-spec =
     tie.close
-    (tie.spec
-    shifted-requires
-    shifted-requires-2
-    between-requires
-    between-requires-2
-    model-by-requires
-    sample-at-requires
-    lifted-requires
-    filled-requires
-    is-on-requires
-    returns)
+    (tie.spec (λ c κs. search needs) (λ c κs. search needs) (λ c κs. search needs) (λ c κs. search needs)
+    (λ c κs. search needs) (λ c κs. search needs) (λ c κs. search needs) (λ c κs. search needs)
+    (λ c κs. search needs) returns)

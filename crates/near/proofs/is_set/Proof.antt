@@ -5,15 +5,6 @@ use borrow.Author.Needs.{needs}
 use Rattle.near.proofs.is_set.Statement.{statement}
 use Rattle.near.proofs.is_set.Tie as tie
 
-beside-requires : tie.Need-beside-requires
-beside-requires c κs = search needs
-
-beside-requires-2 : tie.Need-beside-requires-2
-beside-requires-2 c κs = search needs
-
-place-requires : tie.Need-place-requires
-place-requires c κs = search needs
-
 model-at-requires : tie.Need-model-at-requires
 model-at-requires c κs =
     let s = c .before .before .before .before in
@@ -22,9 +13,6 @@ model-at-requires c κs =
     let row = c .before .before .beside .ensures in
     let column = c .before .beside2 .ensures in
     omega (arith, c .place .ensures, pixel-in (a .models .now) (a .width) (a .height) (c .before .beside2 .result) (c .before .before .beside .result) (column .1) (row .1), h .long)
-
-set-requires : tie.Need-set-requires
-set-requires c κs = search needs
 
 returns : tie.Need-returns
 returns c =
@@ -39,10 +27,5 @@ returns c =
 pub is-set-spec : {M : Type 1} → statement M
 is-set-spec =
     tie.close
-    (tie.spec
-    beside-requires
-    beside-requires-2
-    place-requires
-    model-at-requires
-    set-requires
-    returns)
+    (tie.spec (λ c κs. search needs) (λ c κs. search needs) (λ c κs. search needs) model-at-requires
+    (λ c κs. search needs) returns)

@@ -23,18 +23,6 @@ loop-holds : tie.Need-loop-holds Inv-loop μ-loop
 unfolding turns howMany nearBelow
 loop-holds c = (refl, omega arith, omega arith)
 
-is-set-requires : tie.Need-is-set-requires Inv-loop μ-loop
-is-set-requires c κs = search needs
-
-counted-requires : tie.Need-counted-requires Inv-loop μ-loop
-counted-requires c κs = search needs
-
-add-side : tie.Need-add-side Inv-loop μ-loop
-add-side c = search needs
-
-loop-less : tie.Need-loop-less Inv-loop μ-loop
-loop-less c = search needs
-
 loop-again : tie.Need-loop-again Inv-loop μ-loop
 unfolding turns howMany nearBelow
 loop-again c =
@@ -51,13 +39,5 @@ returns c =
 pub near-spec : {M : Type 1} → statement M
 near-spec =
     tie.close
-    (tie.spec
-    Inv-loop
-    μ-loop
-    loop-holds
-    is-set-requires
-    counted-requires
-    add-side
-    loop-less
-    loop-again
-    returns)
+    (tie.spec Inv-loop μ-loop loop-holds (λ c κs. search needs) (λ c κs. search needs) (λ c. search needs)
+    (λ c. search needs) loop-again returns)

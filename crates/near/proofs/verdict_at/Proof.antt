@@ -22,20 +22,11 @@ told c =
     let a = s .args in
     verdict-is (a .models .now) (a .width) (a .height) (a .x) (a .y) (s .pre .left) (s .pre .above) (c .model-at .result) (c .model-at .ensures ∙ rw (c .before .place .ensures))
 
-place-requires : tie.Need-place-requires
-place-requires c κs = search needs
-
 model-at-requires : tie.Need-model-at-requires
 model-at-requires c κs =
     let s = c .before .before in
     let a = s .args in
     omega (arith, c .place .ensures, pixel-in (a .models .now) (a .width) (a .height) (a .x) (a .y) (s .pre .left) (s .pre .above), s .pre .long)
-
-set-requires : tie.Need-set-requires
-set-requires c κs = search needs
-
-near-requires : tie.Need-near-requires
-near-requires c κs = search needs
 
 returns : tie.Need-returns
 returns c =
@@ -46,9 +37,6 @@ returns-2 : tie.Need-returns-2
 returns-2 c =
     let m = c .before .before .before .before in
     sym (told m ∙ rw (← c .before .before .before .set .ensures, c .before .before .if1 .taken, ← c .before .near .ensures, lt-leb _ _ (c .if2 .left)))
-
-is-plain-requires : tie.Need-is-plain-requires
-is-plain-requires c κs = search needs
 
 returns-3 : tie.Need-returns-3
 returns-3 c =
@@ -63,13 +51,5 @@ returns-4 c =
 pub verdict-at-spec : {M : Type 1} → statement M
 verdict-at-spec =
     tie.close
-    (tie.spec
-    place-requires
-    model-at-requires
-    set-requires
-    near-requires
-    returns
-    returns-2
-    is-plain-requires
-    returns-3
-    returns-4)
+    (tie.spec (λ c κs. search needs) model-at-requires (λ c κs. search needs) (λ c κs. search needs) returns
+    returns-2 (λ c κs. search needs) returns-3 returns-4)

@@ -8,7 +8,7 @@ use mir.Syntax.{w32}
 use mir.Val.{toZ}
 use Rattle.rules.specs.Forms.{turns}
 use Rattle.offsets.specs.Grid.{blockTotal}
-use Rattle.offsets.proofs.Signed.{back}
+use Rattle.laws.proofs.Signed.{back}
 use Rattle.offsets.proofs.Places.{luma-row, luma-column}
 use Rattle.offsets.proofs.Totals.{total-is, row-asks}
 use Rattle.offsets.proofs.chroma_total.Statement.{statement}
@@ -31,12 +31,6 @@ loop-holds : tie.Need-loop-holds Inv-loop μ-loop
 unfolding turns blockTotal
 loop-holds c = (refl, omega arith)
 
-place-requires : tie.Need-place-requires Inv-loop μ-loop
-place-requires c κs = search needs
-
-place-requires-2 : tie.Need-place-requires-2 Inv-loop μ-loop
-place-requires-2 c κs = search needs
-
 place-requires-3 : tie.Need-place-requires-3 Inv-loop μ-loop
 place-requires-3 c κs =
     let l = c .before .before .before in
@@ -56,12 +50,6 @@ total-row-requires c κs =
     let asks = row-asks (a .g) (s .pre .0) (a .models .now) (s .pre .1) (a .plane) (a .x) (a .y) (l .loop .dy) (s .pre .2) (c .before .before .before .loop-test .taken) (toZ w32 (l .loop .t)) (rw (← l .before .of-size .ensures) (l .loop .inv .0)) in
     rw (c .place3 .ensures, c .before .place2 .ensures, c .before .before .place .ensures, add-zero) asks
 
-add-dy : tie.Need-add-dy Inv-loop μ-loop
-add-dy c = search needs
-
-loop-less : tie.Need-loop-less Inv-loop μ-loop
-loop-less c = search needs
-
 loop-again : tie.Need-loop-again Inv-loop μ-loop
 unfolding turns blockTotal
 loop-again c =
@@ -79,17 +67,6 @@ returns c =
 pub chroma-total-spec : {M : Type 1} → statement M
 chroma-total-spec =
     tie.close
-    (tie.spec
-    Inv-loop
-    μ-loop
-    mul-of-size
-    of-size-requires
-    loop-holds
-    place-requires
-    place-requires-2
-    place-requires-3
-    total-row-requires
-    add-dy
-    loop-less
-    loop-again
-    returns)
+    (tie.spec Inv-loop μ-loop mul-of-size of-size-requires loop-holds (λ c κs. search needs)
+    (λ c κs. search needs) place-requires-3 total-row-requires (λ c. search needs) (λ c. search needs)
+    loop-again returns)

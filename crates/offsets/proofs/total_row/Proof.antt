@@ -8,7 +8,8 @@ use mir.Syntax.{w32}
 use mir.Val.{toZ, ofZ}
 use Rattle.rules.specs.Forms.{turns}
 use Rattle.offsets.specs.Grid.{rowTotal}
-use Rattle.offsets.proofs.Signed.{back, row-fits, row-more}
+use Rattle.offsets.proofs.Signed.{row-fits, row-more}
+use Rattle.laws.proofs.Signed.{back}
 use Rattle.offsets.proofs.total_row.Statement.{statement}
 use Rattle.offsets.proofs.total_row.Tie as tie
 
@@ -26,20 +27,8 @@ loop-holds : tie.Need-loop-holds Inv-loop μ-loop
 unfolding turns rowTotal
 loop-holds c = (refl, omega arith)
 
-add-term : tie.Need-add-term Inv-loop μ-loop
-add-term c = search needs
-
-term-requires : tie.Need-term-requires Inv-loop μ-loop
-term-requires c κs = search needs
-
 add-t : tie.Need-add-t Inv-loop μ-loop
 add-t c = row-fits _ _ _ _ _ _ (c .before .before .loop .t) _ (c .before .before .loop .inv .0) (c .term .ensures) (c .term .ok) (few c) (omega arith)
-
-add-dx : tie.Need-add-dx Inv-loop μ-loop
-add-dx c = search needs
-
-loop-less : tie.Need-loop-less Inv-loop μ-loop
-loop-less c = search needs
 
 loop-again : tie.Need-loop-again Inv-loop μ-loop
 loop-again c =
@@ -54,14 +43,5 @@ returns c =
 pub total-row-spec : {M : Type 1} → statement M
 total-row-spec =
     tie.close
-    (tie.spec
-    Inv-loop
-    μ-loop
-    loop-holds
-    add-term
-    term-requires
-    add-t
-    add-dx
-    loop-less
-    loop-again
-    returns)
+    (tie.spec Inv-loop μ-loop loop-holds (λ c. search needs) (λ c κs. search needs) add-t (λ c. search needs)
+    (λ c. search needs) loop-again returns)

@@ -14,11 +14,5 @@ returns-2 c = sym (simp (c .if2 .taken, div-one))
 returns-3 : tie.Need-returns-3
 returns-3 c = rw (c .if3 .taken)
 
-div-result : tie.Need-div-result
-div-result c = search needs
-
-returns-4 : tie.Need-returns-4
-returns-4 c = search needs
-
 pub divided-spec : {M : Type 1} → statement M
-divided-spec = tie.close (tie.spec returns returns-2 div-result returns-3 returns-4)
+divided-spec = tie.close (tie.spec returns returns-2 (λ c. search needs) returns-3 (λ c. search needs))

@@ -14,11 +14,5 @@ returns-2 c = sym (simp (c .if2 .taken, mod-one))
 returns-3 : tie.Need-returns-3
 returns-3 c = rw (c .if3 .taken)
 
-rem-result : tie.Need-rem-result
-rem-result c = search needs
-
-returns-4 : tie.Need-returns-4
-returns-4 c = search needs
-
 pub divides-spec : {M : Type 1} → statement M
-divides-spec = tie.close (tie.spec returns returns-2 rem-result returns-3 returns-4)
+divides-spec = tie.close (tie.spec returns returns-2 (λ c. search needs) returns-3 (λ c. search needs))

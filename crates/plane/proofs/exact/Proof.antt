@@ -7,18 +7,6 @@ use Rattle.plane.proofs.Laws.{product}
 use Rattle.plane.proofs.exact.Statement.{statement}
 use Rattle.plane.proofs.exact.Tie as tie
 
-divides-requires : tie.Need-divides-requires
-divides-requires c κs = search needs
-
-div-is-product : tie.Need-div-is-product
-div-is-product c = search needs
-
-is-product-requires : tie.Need-is-product-requires
-is-product-requires c κs = search needs
-
-both-requires : tie.Need-both-requires
-both-requires c κs = search needs
-
 returns : tie.Need-returns
 returns c = rw (c .if1 .taken, zero-mul (c .before .args .width * c .before .args .height))
 
@@ -31,4 +19,6 @@ returns-2 c =
 
 pub exact-spec : {M : Type 1} → statement M
 exact-spec =
-    tie.close (tie.spec divides-requires div-is-product is-product-requires both-requires returns returns-2)
+    tie.close
+    (tie.spec (λ c κs. search needs) (λ c. search needs) (λ c κs. search needs) (λ c κs. search needs) returns
+    returns-2)

@@ -25,9 +25,6 @@ returns-2 c =
     let room = c .before .before .if1 .left in
     leb-same (a .rows * a .pitch) (a .size - a .more) (a .rows * a .pitch + a .more) (a .size) (λ h. omega (arith, room)) (λ h. omega (arith, room))
 
-div-result : tie.Need-div-result
-div-result c = search needs
-
 returns-3 : tie.Need-returns-3
 returns-3 c =
     let a = c .before .before .before .args in
@@ -38,4 +35,4 @@ returns-4 : tie.Need-returns-4
 returns-4 c = quotient _ _ _ _ (c .before .before .if1 .left) (c .if4 .left)
 
 pub holds-spec : {M : Type 1} → statement M
-holds-spec = tie.close (tie.spec returns mul-result returns-2 div-result returns-3 returns-4)
+holds-spec = tie.close (tie.spec returns mul-result returns-2 (λ c. search needs) returns-3 returns-4)

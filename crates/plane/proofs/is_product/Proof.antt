@@ -7,15 +7,6 @@ use Rattle.plane.proofs.Laws.{product}
 use Rattle.plane.proofs.is_product.Statement.{statement}
 use Rattle.plane.proofs.is_product.Tie as tie
 
-divides-requires : tie.Need-divides-requires
-divides-requires c κs = search needs
-
-div-both : tie.Need-div-both
-div-both c = search needs
-
-both-requires : tie.Need-both-requires
-both-requires c κs = search needs
-
 returns : tie.Need-returns
 returns c = rw (c .if1 .taken, mul-zero)
 
@@ -27,4 +18,4 @@ returns-2 c =
 
 pub is-product-spec : {M : Type 1} → statement M
 is-product-spec =
-    tie.close (tie.spec divides-requires div-both both-requires returns returns-2)
+    tie.close (tie.spec (λ c κs. search needs) (λ c. search needs) (λ c κs. search needs) returns returns-2)

@@ -4,11 +4,8 @@ use borrow.Author.Needs.{needs}
 use Rattle.plane.proofs.layered.Statement.{statement}
 use Rattle.plane.proofs.layered.Tie as tie
 
-holds-requires : tie.Need-holds-requires
-holds-requires c κs = search needs
-
 returns : tie.Need-returns
 returns c = c .holds .ensures ∙ halved (c .before .args .size) (c .before .args .rows) (c .before .args .pitch)
 
 pub layered-spec : {M : Type 1} → statement M
-layered-spec = tie.close (tie.spec holds-requires returns)
+layered-spec = tie.close (tie.spec (λ c κs. search needs) returns)

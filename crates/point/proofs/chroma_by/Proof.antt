@@ -4,25 +4,10 @@ use borrow.Author.Needs.{needs}
 use Rattle.point.proofs.chroma_by.Statement.{statement}
 use Rattle.point.proofs.chroma_by.Tie as tie
 
-both-requires : tie.Need-both-requires
-both-requires c κs = search needs
-
-texel-requires : tie.Need-texel-requires
-texel-requires c κs = search needs
-
 returns : tie.Need-returns
 returns c =
     let test = c .before in
     rw (c .texel .ensures) (whole-is _ _ _ _ (test .before .both .ensures) (test .if1 .taken))
-
-chroma-row-requires : tie.Need-chroma-row-requires
-chroma-row-requires c κs = search needs
-
-chroma-row-requires-2 : tie.Need-chroma-row-requires-2
-chroma-row-requires-2 c κs = search needs
-
-mix-models-requires : tie.Need-mix-models-requires
-mix-models-requires c κs = search needs
 
 returns-2 : tie.Need-returns-2
 returns-2 c =
@@ -32,11 +17,5 @@ returns-2 c =
 pub chroma-by-spec : {M : Type 1} → statement M
 chroma-by-spec =
     tie.close
-    (tie.spec
-    both-requires
-    texel-requires
-    returns
-    chroma-row-requires
-    chroma-row-requires-2
-    mix-models-requires
-    returns-2)
+    (tie.spec (λ c κs. search needs) (λ c κs. search needs) returns (λ c κs. search needs)
+    (λ c κs. search needs) (λ c κs. search needs) returns-2)

@@ -4,18 +4,16 @@ use borrow.Author.Needs.{needs}
 use Rattle.point.proofs.chroma_row.Statement.{statement}
 use Rattle.point.proofs.chroma_row.Tie as tie
 
-texel-requires : tie.Need-texel-requires
-texel-requires c κs = search needs
-
-texel-requires-2 : tie.Need-texel-requires-2
-texel-requires-2 c κs = search needs
-
-mix-models-requires : tie.Need-mix-models-requires
-mix-models-requires c κs = search needs
-
 returns : tie.Need-returns
 unfolding rowOf
-returns c = rw (c .mix-models .ensures, c .before .texel2 .ensures, c .before .before .texel .ensures)
+returns c = rw (c .mix-models .ensures, c .before .chroma2 .ensures, c .before .before .chroma .ensures)
+
+returns-2 : tie.Need-returns-2
+unfolding rowOf
+returns-2 c = rw (c .mix-models2 .ensures, c .before .texel2 .ensures, c .before .before .texel .ensures)
 
 pub chroma-row-spec : {M : Type 1} → statement M
-chroma-row-spec = tie.close (tie.spec texel-requires texel-requires-2 mix-models-requires returns)
+chroma-row-spec =
+    tie.close
+    (tie.spec (λ c κs. search needs) (λ c κs. search needs) (λ c κs. search needs) returns (λ c κs. search needs) (λ c κs. search needs)
+    (λ c κs. search needs) returns-2)

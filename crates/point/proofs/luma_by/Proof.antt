@@ -4,12 +4,6 @@ use borrow.Author.Needs.{needs}
 use Rattle.point.proofs.luma_by.Statement.{statement}
 use Rattle.point.proofs.luma_by.Tie as tie
 
-both-requires : tie.Need-both-requires
-both-requires c κs = search needs
-
-place-requires : tie.Need-place-requires
-place-requires c κs = search needs
-
 luma-texel-requires : tie.Need-luma-texel-requires
 luma-texel-requires c κs =
     let s = c .before .before .before .before .before in
@@ -20,15 +14,6 @@ returns c =
     let test = c .before .before in
     rw (c .luma-texel .ensures, c .before .place .ensures) (whole-is _ _ _ _ (test .before .both .ensures) (test .if1 .taken))
 
-luma-row-requires : tie.Need-luma-row-requires
-luma-row-requires c κs = search needs
-
-luma-row-requires-2 : tie.Need-luma-row-requires-2
-luma-row-requires-2 c κs = search needs
-
-mix-models-requires : tie.Need-mix-models-requires
-mix-models-requires c κs = search needs
-
 returns-2 : tie.Need-returns-2
 returns-2 c =
     let test = c .before .before .before in
@@ -37,12 +22,5 @@ returns-2 c =
 pub luma-by-spec : {M : Type 1} → statement M
 luma-by-spec =
     tie.close
-    (tie.spec
-    both-requires
-    place-requires
-    luma-texel-requires
-    returns
-    luma-row-requires
-    luma-row-requires-2
-    mix-models-requires
-    returns-2)
+    (tie.spec (λ c κs. search needs) (λ c κs. search needs) luma-texel-requires returns (λ c κs. search needs)
+    (λ c κs. search needs) (λ c κs. search needs) returns-2)

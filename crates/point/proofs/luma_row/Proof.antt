@@ -5,24 +5,15 @@ use borrow.Author.Needs.{needs}
 use Rattle.point.proofs.luma_row.Statement.{statement}
 use Rattle.point.proofs.luma_row.Tie as tie
 
-place-requires : tie.Need-place-requires
-place-requires c κs = search needs
-
 luma-texel-requires : tie.Need-luma-texel-requires
 luma-texel-requires c κs =
     let s = c .before in
     rw (c .place .ensures) (luma-in _ _ _ _ _ _ _ (s .pre .0) (s .pre .1) (s .pre .3))
 
-place-requires-2 : tie.Need-place-requires-2
-place-requires-2 c κs = search needs
-
 luma-texel-requires-2 : tie.Need-luma-texel-requires-2
 luma-texel-requires-2 c κs =
     let s = c .before .before .before in
     rw (c .place2 .ensures) (luma-in _ _ _ _ _ _ _ (s .pre .0) (s .pre .2) (s .pre .3))
-
-mix-models-requires : tie.Need-mix-models-requires
-mix-models-requires c κs = search needs
 
 returns : tie.Need-returns
 unfolding rowOf
@@ -31,10 +22,5 @@ returns c = rw (c .mix-models .ensures, c .before .luma-texel2 .ensures, c .befo
 pub luma-row-spec : {M : Type 1} → statement M
 luma-row-spec =
     tie.close
-    (tie.spec
-    place-requires
-    luma-texel-requires
-    place-requires-2
-    luma-texel-requires-2
-    mix-models-requires
-    returns)
+    (tie.spec (λ c κs. search needs) luma-texel-requires (λ c κs. search needs) luma-texel-requires-2
+    (λ c κs. search needs) returns)

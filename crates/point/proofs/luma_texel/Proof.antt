@@ -9,27 +9,6 @@ use borrow.Author.Needs.{needs}
 use Rattle.point.proofs.luma_texel.Statement.{statement}
 use Rattle.point.proofs.luma_texel.Tie as tie
 
-mul-of-stored : tie.Need-mul-of-stored
-mul-of-stored c = search needs
-
-shared-slice-copy-out-of-stored : tie.Need-shared-slice-copy-out-of-stored
-shared-slice-copy-out-of-stored c = search needs
-
-of-stored-requires : tie.Need-of-stored-requires
-of-stored-requires c κs = search needs
-
-add-of-stored : tie.Need-add-of-stored
-add-of-stored c = search needs
-
-mul-of-stored-2 : tie.Need-mul-of-stored-2
-mul-of-stored-2 c = search needs
-
-shared-slice-copy-out-of-stored-2 : tie.Need-shared-slice-copy-out-of-stored-2
-shared-slice-copy-out-of-stored-2 c = search needs
-
-of-stored-requires-2 : tie.Need-of-stored-requires-2
-of-stored-requires-2 c κs = search needs
-
 returns : tie.Need-returns
 unfolding lumaTexel
 returns c =
@@ -39,12 +18,5 @@ returns c =
 pub luma-texel-spec : {M : Type 1} → statement M
 luma-texel-spec =
     tie.close
-    (tie.spec
-    mul-of-stored
-    shared-slice-copy-out-of-stored
-    of-stored-requires
-    add-of-stored
-    mul-of-stored-2
-    shared-slice-copy-out-of-stored-2
-    of-stored-requires-2
-    returns)
+    (tie.spec (λ c. search needs) (λ c. search needs) (λ c κs. search needs) (λ c. search needs)
+    (λ c. search needs) (λ c. search needs) (λ c κs. search needs) returns)

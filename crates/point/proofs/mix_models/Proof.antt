@@ -3,14 +3,8 @@ use borrow.Author.Needs.{needs}
 use Rattle.point.proofs.mix_models.Statement.{statement}
 use Rattle.point.proofs.mix_models.Tie as tie
 
-mix-requires : tie.Need-mix-requires
-mix-requires c κs = search needs
-
-mix-requires-2 : tie.Need-mix-requires-2
-mix-requires-2 c κs = search needs
-
 returns : tie.Need-returns
 returns c = rw (c .mix2 .ensures, c .before .mix .ensures)
 
 pub mix-models-spec : {M : Type 1} → statement M
-mix-models-spec = tie.close (tie.spec mix-requires mix-requires-2 returns)
+mix-models-spec = tie.close (tie.spec (λ c κs. search needs) (λ c κs. search needs) returns)

@@ -4,16 +4,10 @@ use borrow.Author.Needs.{needs}
 use Rattle.point.proofs.model_by.Statement.{statement}
 use Rattle.point.proofs.model_by.Tie as tie
 
-place-requires : tie.Need-place-requires
-place-requires c κs = search needs
-
 luma-by-requires : tie.Need-luma-by-requires
 luma-by-requires c κs =
     let s = c .before .before .before .before in
     (rw (c .place .ensures) (luma-fits _ _ _ _ _ (s .pre .0) (c .before .if1 .taken)), s .pre .1)
-
-chroma-by-requires : tie.Need-chroma-by-requires
-chroma-by-requires c κs = search needs
 
 returns : tie.Need-returns
 returns c =
@@ -21,9 +15,7 @@ returns c =
     let zero = c .before .before .if1 .taken in
     rw (c .luma-by .ensures, c .before .place .ensures) (same-point _ _ _ _ (luma-is _ _ _ _ _ (s .pre .0) zero))
 
-returns-2 : tie.Need-returns-2
-returns-2 c = search needs
-
 pub model-by-spec : {M : Type 1} → statement M
 model-by-spec =
-    tie.close (tie.spec place-requires luma-by-requires chroma-by-requires returns returns-2)
+    tie.close
+    (tie.spec (λ c κs. search needs) luma-by-requires (λ c κs. search needs) returns (λ c. search needs))

@@ -4,12 +4,9 @@ use borrow.Author.Needs.{needs}
 use Rattle.refuse.proofs.empty_refusal.Statement.{statement}
 use Rattle.refuse.proofs.empty_refusal.Tie as tie
 
-rows-requires : tie.Need-rows-requires
-rows-requires c κs = search needs
-
 returns : tie.Need-returns
 unfolding emptyRefusal firstFitting each
 returns c = rw (c .rows .ensures, c .before .before .before .before .pre)
 
 pub empty-refusal-spec : {M : Type 1} → statement M
-empty-refusal-spec = tie.close (tie.spec rows-requires returns)
+empty-refusal-spec = tie.close (tie.spec (λ c κs. search needs) returns)

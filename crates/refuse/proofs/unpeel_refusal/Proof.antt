@@ -5,15 +5,9 @@ use borrow.Author.Needs.{needs}
 use Rattle.refuse.proofs.unpeel_refusal.Statement.{statement}
 use Rattle.refuse.proofs.unpeel_refusal.Tie as tie
 
-time-row-requires : tie.Need-time-row-requires
-time-row-requires c κs = search needs
-
-frames-rows-requires : tie.Need-frames-rows-requires
-frames-rows-requires c κs = search needs
-
 returns : tie.Need-returns
 unfolding unpeelRefusal firstFitting each
 returns c = rw (c .frames-rows .ensures, c .before .time-row .ensures)
 
 pub unpeel-refusal-spec : {M : Type 1} → statement M
-unpeel-refusal-spec = tie.close (tie.spec time-row-requires frames-rows-requires returns)
+unpeel-refusal-spec = tie.close (tie.spec (λ c κs. search needs) (λ c κs. search needs) returns)

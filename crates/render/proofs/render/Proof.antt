@@ -4,12 +4,6 @@ use borrow.Author.Needs.{needs}
 use Rattle.render.proofs.render.Statement.{statement}
 use Rattle.render.proofs.render.Tie as tie
 
-render-on-requires : tie.Need-render-on-requires
-render-on-requires c κs = search needs
-
-same-length : tie.Need-same-length
-same-length c = search needs
-
 returns : tie.Need-returns
 returns c =
     let on = c .before .before in
@@ -17,4 +11,4 @@ returns c =
     rw (toZ-ofZ (s .fits .block-width), toZ-ofZ (s .fits .block-height), toZ-ofZ (s .fits .origin-x), toZ-ofZ (s .fits .origin-y), toZ-ofZ (s .fits .pel), toZ-ofZ (s .fits .algo)) at (on .render-on .ensures)
 
 pub render-spec : {M : Type 1} → statement M
-render-spec = tie.close (tie.spec render-on-requires same-length returns)
+render-spec = tie.close (tie.spec (λ c κs. search needs) (λ c. search needs) returns)

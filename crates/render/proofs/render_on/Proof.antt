@@ -8,12 +8,6 @@ use borrow.Author.Needs.{needs}
 use Rattle.render.proofs.render_on.Statement.{statement}
 use Rattle.render.proofs.render_on.Tie as tie
 
-render-refusal-requires : tie.Need-render-refusal-requires
-render-refusal-requires c κs = search needs
-
-same-length : tie.Need-same-length
-same-length c = search needs
-
 returns : tie.Need-returns
 returns c = record { done = refused _ _ _ _ _ (c .before .render-refusal .ensures _) (c .if1 .taken) }
 
@@ -30,16 +24,10 @@ accepted c =
 far-requires : tie.Need-far-requires
 far-requires c κs = accepted c .moves .laid .parts
 
-planned-requires : tie.Need-planned-requires
-planned-requires c κs = search needs
-
 render-rows-requires : tie.Need-render-rows-requires
 render-rows-requires c κs =
     let r = accepted (c .before .before .before) in
     rw (c .before .planned .ensures) (record { framed = r .framed; moves = r .moves; far-is = c .before .before .far .ensures }, r .room)
-
-same-length-2 : tie.Need-same-length-2
-same-length-2 c = search needs
 
 returns-2 : tie.Need-returns-2
 returns-2 c =
@@ -54,12 +42,5 @@ returns-2 c =
 pub render-on-spec : {M : Type 1} → statement M
 render-on-spec =
     tie.close
-    (tie.spec
-    render-refusal-requires
-    same-length
-    returns
-    far-requires
-    planned-requires
-    render-rows-requires
-    same-length-2
-    returns-2)
+    (tie.spec (λ c κs. search needs) (λ c. search needs) returns far-requires (λ c κs. search needs)
+    render-rows-requires (λ c. search needs) returns-2)

@@ -8,15 +8,6 @@ use borrow.Author.Needs.{needs}
 use Rattle.render_rows.proofs.render_cell.Statement.{statement}
 use Rattle.render_rows.proofs.render_cell.Tie as tie
 
-distance-requires : tie.Need-distance-requires
-distance-requires c κs = search needs
-
-gap-requires : tie.Need-gap-requires
-gap-requires c κs = search needs
-
-within-requires : tie.Need-within-requires
-within-requires c κs = search needs
-
 render-run-requires : tie.Need-render-run-requires
 render-run-requires c κs =
     let tested = c .before in
@@ -30,12 +21,6 @@ render-run-requires c κs =
       s .pre .2,
       rw e (record { one = cell-one _ h _ _ _ _ _ _ d (s .pre .3) (read .distance .ensures); near = rw (tested .before .within .ensures, tested .before .before .gap .ensures, e) at (tested .if1 .taken) }),
     )
-
-same-length : tie.Need-same-length
-same-length c = search needs
-
-returns : tie.Need-returns
-returns c = search needs
 
 returns-2 : tie.Need-returns-2
 returns-2 c =
@@ -52,11 +37,5 @@ returns-2 c =
 pub render-cell-spec : {M : Type 1} → statement M
 render-cell-spec =
     tie.close
-    (tie.spec
-    distance-requires
-    gap-requires
-    within-requires
-    render-run-requires
-    same-length
-    returns
-    returns-2)
+    (tie.spec (λ c κs. search needs) (λ c κs. search needs) (λ c κs. search needs) render-run-requires
+    (λ c. search needs) (λ c. search needs) returns-2)

@@ -62,13 +62,5 @@ returns c =
 pub render-cells-spec : {M : Type 1} → statement M
 render-cells-spec =
     tie.close
-    (tie.spec
-    Inv-loop
-    μ-loop
-    loop-holds
-    cell-end-requires
-    render-cell-requires
-    loop-less
-    loop-again
-    same-length
-    returns)
+    (tie.spec Inv-loop μ-loop loop-holds cell-end-requires render-cell-requires loop-less loop-again
+    same-length returns)

@@ -7,15 +7,6 @@ use borrow.Author.Needs.{needs}
 use Rattle.render_rows.proofs.render_dot.Statement.{statement}
 use Rattle.render_rows.proofs.render_dot.Tie as tie
 
-gap-requires : tie.Need-gap-requires
-gap-requires c κs = search needs
-
-reached-requires : tie.Need-reached-requires
-reached-requires c κs = search needs
-
-near-requires : tie.Need-near-requires
-near-requires c κs = search needs
-
 composed-requires : tie.Need-composed-requires
 unfolding gap
 composed-requires c κs =
@@ -40,4 +31,5 @@ returns-2 c =
 pub render-dot-spec : {M : Type 1} → statement M
 render-dot-spec =
     tie.close
-    (tie.spec gap-requires reached-requires near-requires composed-requires returns returns-2)
+    (tie.spec (λ c κs. search needs) (λ c κs. search needs) (λ c κs. search needs) composed-requires returns
+    returns-2)

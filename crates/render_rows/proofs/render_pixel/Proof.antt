@@ -8,15 +8,6 @@ use borrow.Author.Needs.{needs}
 use Rattle.render_rows.proofs.render_pixel.Statement.{statement}
 use Rattle.render_rows.proofs.render_pixel.Tie as tie
 
-carry-requires : tie.Need-carry-requires
-carry-requires c κs = search needs
-
-steps-of-requires : tie.Need-steps-of-requires
-steps-of-requires c κs = search needs
-
-timed-requires : tie.Need-timed-requires
-timed-requires c κs = search needs
-
 render-dot-requires : tie.Need-render-dot-requires
 render-dot-requires c κs =
     let s = c .before .before .before .before .before .before .before .before .before .before .before in
@@ -36,9 +27,6 @@ stamp-requires c κs =
     let asks = s .pre .1 in
     omega (arith, c .before .place .ensures, asks .room, asks .few)
 
-same-length : tie.Need-same-length
-same-length c = search needs
-
 returns : tie.Need-returns
 returns c =
     let stamped = c .before .before in
@@ -55,12 +43,5 @@ returns c =
 pub render-pixel-spec : {M : Type 1} → statement M
 render-pixel-spec =
     tie.close
-    (tie.spec
-    carry-requires
-    steps-of-requires
-    timed-requires
-    render-dot-requires
-    place-requires
-    stamp-requires
-    same-length
-    returns)
+    (tie.spec (λ c κs. search needs) (λ c κs. search needs) (λ c κs. search needs) render-dot-requires
+    place-requires stamp-requires (λ c. search needs) returns)

@@ -5,15 +5,6 @@ use borrow.Author.Needs.{needs}
 use Rattle.render_rows.proofs.render_row.Statement.{statement}
 use Rattle.render_rows.proofs.render_row.Tie as tie
 
-row-taps-requires : tie.Need-row-taps-requires
-row-taps-requires c κs = search needs
-
-column-taps-requires : tie.Need-column-taps-requires
-column-taps-requires c κs = search needs
-
-around-requires : tie.Need-around-requires
-around-requires c κs = search needs
-
 render-cells-requires : tie.Need-render-cells-requires
 render-cells-requires c κs =
     let s = c .before .before .before .before .before .before .before .before .before .before .before .before .before in
@@ -27,19 +18,8 @@ render-cells-requires c κs =
       },
     )
 
-same-length : tie.Need-same-length
-same-length c = search needs
-
-returns : tie.Need-returns
-returns c = search needs
-
 pub render-row-spec : {M : Type 1} → statement M
 render-row-spec =
     tie.close
-    (tie.spec
-    row-taps-requires
-    column-taps-requires
-    around-requires
-    render-cells-requires
-    same-length
-    returns)
+    (tie.spec (λ c κs. search needs) (λ c κs. search needs) (λ c κs. search needs) render-cells-requires
+    (λ c. search needs) (λ c. search needs))

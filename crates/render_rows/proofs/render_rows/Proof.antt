@@ -63,13 +63,4 @@ returns c =
 pub render-rows-spec : {M : Type 1} → statement M
 render-rows-spec =
     tie.close
-    (tie.spec
-    Inv-loop
-    μ-loop
-    loop-holds
-    render-row-requires
-    add-y
-    loop-less
-    loop-again
-    same-length
-    returns)
+    (tie.spec Inv-loop μ-loop loop-holds render-row-requires add-y loop-less loop-again same-length returns)

@@ -39,12 +39,6 @@ render-pixel-requires c κs =
       rw (toZ-ofZ (s .fits .d)) (near-part _ _ (s .pre .3) (inv .1) (omega arith)),
     )
 
-add-x : tie.Need-add-x Inv-loop μ-loop
-add-x c = search needs
-
-loop-less : tie.Need-loop-less Inv-loop μ-loop
-loop-less c = search needs
-
 loop-again : tie.Need-loop-again Inv-loop μ-loop
 loop-again c =
     let done = c .before .before .render-pixel in
@@ -67,13 +61,5 @@ returns c =
 pub render-run-spec : {M : Type 1} → statement M
 render-run-spec =
     tie.close
-    (tie.spec
-    Inv-loop
-    μ-loop
-    loop-holds
-    render-pixel-requires
-    add-x
-    loop-less
-    loop-again
-    same-length
-    returns)
+    (tie.spec Inv-loop μ-loop loop-holds render-pixel-requires (λ c. search needs) (λ c. search needs)
+    loop-again same-length returns)

@@ -3,14 +3,8 @@ use borrow.Author.Needs.{needs}
 use Rattle.ring.proofs.beside.Statement.{statement}
 use Rattle.ring.proofs.beside.Tie as tie
 
-sign-requires : tie.Need-sign-requires
-sign-requires c κs = search needs
-
-held-requires : tie.Need-held-requires
-held-requires c κs = search needs
-
 returns : tie.Need-returns
 returns c = rw (c .before .sign .ensures) at (c .held .ensures)
 
 pub beside-spec : {M : Type 1} → statement M
-beside-spec = tie.close (tie.spec sign-requires held-requires returns)
+beside-spec = tie.close (tie.spec (λ c κs. search needs) (λ c κs. search needs) returns)

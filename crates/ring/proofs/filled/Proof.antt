@@ -4,15 +4,6 @@ use borrow.Author.Needs.{needs}
 use Rattle.ring.proofs.filled.Statement.{statement}
 use Rattle.ring.proofs.filled.Tie as tie
 
-enum-known-s : tie.Need-enum-known-s
-enum-known-s c = search needs
-
-enum-known-s-2 : tie.Need-enum-known-s-2
-enum-known-s-2 c = search needs
-
-rings-requires : tie.Need-rings-requires
-rings-requires c κs = search needs
-
 returns : tie.Need-returns
 unfolding filledOf
 returns c = rw (c .before .s .given .1)
@@ -21,4 +12,5 @@ returns-2 : tie.Need-returns-2
 returns-2 c = rw (c .rings .ensures, c .before .before .s2 .given .1)
 
 pub filled-spec : {M : Type 1} → statement M
-filled-spec = tie.close (tie.spec enum-known-s enum-known-s-2 rings-requires returns returns-2)
+filled-spec =
+    tie.close (tie.spec (λ c. search needs) (λ c. search needs) (λ c κs. search needs) returns returns-2)

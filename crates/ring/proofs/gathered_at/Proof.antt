@@ -9,27 +9,6 @@ use borrow.Author.Needs.{needs}
 use Rattle.ring.proofs.gathered_at.Statement.{statement}
 use Rattle.ring.proofs.gathered_at.Tie as tie
 
-between-requires : tie.Need-between-requires
-between-requires c κs = search needs
-
-between-requires-2 : tie.Need-between-requires-2
-between-requires-2 c κs = search needs
-
-model-by-requires : tie.Need-model-by-requires
-model-by-requires c κs = search needs
-
-abs-requires : tie.Need-abs-requires
-abs-requires c κs = search needs
-
-sample-at-requires : tie.Need-sample-at-requires
-sample-at-requires c κs = search needs
-
-lift-requires : tie.Need-lift-requires
-lift-requires c κs = search needs
-
-added-requires : tie.Need-added-requires
-added-requires c κs = search needs
-
 model-at : (c : tie.After-model-by) → let a = c .before .before .before .before .before .args in
     c .model-by .result ≡ modelAt (layerOf (a .p) (a .l .now) (a .a .now) (a .b .now) (a .spare .now)) (a .p .shape .plane) (a .x) (a .y)
 model-at c =
@@ -56,13 +35,5 @@ returns-2 c = passes _ _ _ (rw (c .before .abs .ensures, model-at (c .before .be
 pub gathered-at-spec : {M : Type 1} → statement M
 gathered-at-spec =
     tie.close
-    (tie.spec
-    between-requires
-    between-requires-2
-    model-by-requires
-    abs-requires
-    sample-at-requires
-    lift-requires
-    added-requires
-    returns
-    returns-2)
+    (tie.spec (λ c κs. search needs) (λ c κs. search needs) (λ c κs. search needs) (λ c κs. search needs)
+    (λ c κs. search needs) (λ c κs. search needs) (λ c κs. search needs) returns returns-2)

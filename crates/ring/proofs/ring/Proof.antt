@@ -7,15 +7,6 @@ use borrow.Author.Needs.{needs}
 use Rattle.ring.proofs.ring.Statement.{statement}
 use Rattle.ring.proofs.ring.Tie as tie
 
-of-size-requires : tie.Need-of-size-requires
-of-size-requires c κs = search needs
-
-of-size-requires-2 : tie.Need-of-size-requires-2
-of-size-requires-2 c κs = search needs
-
-ring-around-requires : tie.Need-ring-around-requires
-ring-around-requires c κs = search needs
-
 returns : tie.Need-returns
 unfolding ringOf ringUpTo
 returns c =
@@ -23,4 +14,4 @@ returns c =
     rw (c .ring-around .ensures, c .before .of-size2 .ensures, c .before .before .of-size .ensures, ap (λ (q : Plan). q .span) (s .pre .0 .lies .sound .planned .is))
 
 pub ring-spec : {M : Type 1} → statement M
-ring-spec = tie.close (tie.spec of-size-requires of-size-requires-2 ring-around-requires returns)
+ring-spec = tie.close (tie.spec (λ c κs. search needs) (λ c κs. search needs) (λ c κs. search needs) returns)

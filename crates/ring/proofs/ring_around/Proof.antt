@@ -22,15 +22,6 @@ loop-holds : tie.Need-loop-holds Inv-loop μ-loop
 unfolding turns ringUpTo
 loop-holds c = (refl, omega arith)
 
-ring-step-requires : tie.Need-ring-step-requires Inv-loop μ-loop
-ring-step-requires c κs = search needs
-
-add-side : tie.Need-add-side Inv-loop μ-loop
-add-side c = search needs
-
-loop-less : tie.Need-loop-less Inv-loop μ-loop
-loop-less c = search needs
-
 loop-again : tie.Need-loop-again Inv-loop μ-loop
 unfolding turns ringUpTo
 loop-again c = (rw (c .ring-step .ensures, c .before .before .loop .inv .0, add-one), omega arith)
@@ -43,4 +34,5 @@ returns c =
 pub ring-around-spec : {M : Type 1} → statement M
 ring-around-spec =
     tie.close
-    (tie.spec Inv-loop μ-loop loop-holds ring-step-requires add-side loop-less loop-again returns)
+    (tie.spec Inv-loop μ-loop loop-holds (λ c κs. search needs) (λ c. search needs) (λ c. search needs)
+    loop-again returns)

@@ -11,15 +11,6 @@ returns : tie.Need-returns
 unfolding stepped
 returns c = sym (simp (eq-eqb _ _ (c .if1 .taken)))
 
-beside-requires : tie.Need-beside-requires
-beside-requires c κs = search needs
-
-beside-requires-2 : tie.Need-beside-requires-2
-beside-requires-2 c κs = search needs
-
-gathered-at-requires : tie.Need-gathered-at-requires
-gathered-at-requires c κs = search needs
-
 returns-2 : tie.Need-returns-2
 unfolding stepped point
 returns-2 c =
@@ -30,4 +21,5 @@ returns-2 c =
 
 pub ring-step-spec : {M : Type 1} → statement M
 ring-step-spec =
-    tie.close (tie.spec returns beside-requires beside-requires-2 gathered-at-requires returns-2)
+    tie.close
+    (tie.spec returns (λ c κs. search needs) (λ c κs. search needs) (λ c κs. search needs) returns-2)

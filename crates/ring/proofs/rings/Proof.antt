@@ -6,17 +6,11 @@ use borrow.Author.Needs.{needs}
 use Rattle.ring.proofs.rings.Statement.{statement}
 use Rattle.ring.proofs.rings.Tie as tie
 
-ring-requires : tie.Need-ring-requires
-ring-requires c κs = search needs
-
 returns : tie.Need-returns
 unfolding filledOf
 returns c =
     let e = c .before .before .before .ring .ensures in
     rw e (mean-is _ _ (rw e at (c .before .if1 .taken)))
-
-ring-requires-2 : tie.Need-ring-requires-2
-ring-requires-2 c κs = search needs
 
 returns-2 : tie.Need-returns-2
 unfolding filledOf
@@ -24,12 +18,6 @@ returns-2 c =
     let e = c .before .before .before .ring2 .ensures in
     let one = c .before .before .before .before in
     rw e (mean-is _ _ (rw e at (c .before .if2 .taken)) ∙ none-is _ _ (rw (one .before .before .ring .ensures) at (one .if1 .left)))
-
-ring-requires-3 : tie.Need-ring-requires-3
-ring-requires-3 c κs = search needs
-
-mean-or-requires : tie.Need-mean-or-requires
-mean-or-requires c κs = search needs
 
 returns-3 : tie.Need-returns-3
 unfolding filledOf
@@ -41,11 +29,5 @@ returns-3 c =
 pub rings-spec : {M : Type 1} → statement M
 rings-spec =
     tie.close
-    (tie.spec
-    ring-requires
-    returns
-    ring-requires-2
-    returns-2
-    ring-requires-3
-    mean-or-requires
-    returns-3)
+    (tie.spec (λ c κs. search needs) returns (λ c κs. search needs) returns-2 (λ c κs. search needs)
+    (λ c κs. search needs) returns-3)

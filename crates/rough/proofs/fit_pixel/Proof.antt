@@ -5,9 +5,6 @@ use borrow.Author.Needs.{needs}
 use Rattle.rough.proofs.fit_pixel.Statement.{statement}
 use Rattle.rough.proofs.fit_pixel.Tie as tie
 
-place-requires : tie.Need-place-requires
-place-requires c κs = search needs
-
 window-requires : tie.Need-window-requires
 window-requires c κs =
     let s = c .before .before .before .before .before .before .before .before .before .before .before .before in
@@ -15,24 +12,12 @@ window-requires c κs =
     let q = s .pre .0 in
     (q .ready, omega (arith, c .place .ensures, pixel-in (a .g) (q .formed) (a .x) (a .y) (s .pre .1) (s .pre .2), q .own-long))
 
-enum-known-model : tie.Need-enum-known-model
-enum-known-model c = search needs
-
-enum-told : tie.Need-enum-told
-enum-told c = search needs
-
 put-found-requires : tie.Need-put-found-requires
 put-found-requires c κs =
     let s = c .before .before .before .before .before .before .before .before .before .before .before .before .before .before .before .before .before in
     let a = s .args in
     let q = s .pre .0 in
     omega (arith, c .before .before .before .before .before .place .ensures, pixel-in (a .g) (q .formed) (a .x) (a .y) (s .pre .1) (s .pre .2), q .models-long, q .kept-long)
-
-same-length : tie.Need-same-length
-same-length c = search needs
-
-same-length-2 : tie.Need-same-length-2
-same-length-2 c = search needs
 
 returns : tie.Need-returns
 returns c =
@@ -69,12 +54,6 @@ put-found-requires-2 c κs =
     let q = s .pre .0 in
     omega (arith, c .before .before .before .before .before .before .before .before .before .before .place .ensures, pixel-in (a .g) (q .formed) (a .x) (a .y) (s .pre .1) (s .pre .2), q .models-long, q .kept-long)
 
-same-length-3 : tie.Need-same-length-3
-same-length-3 c = search needs
-
-same-length-4 : tie.Need-same-length-4
-same-length-4 c = search needs
-
 returns-2 : tie.Need-returns-2
 returns-2 c =
     let put = c .before .before .before .before in
@@ -87,20 +66,6 @@ returns-2 c =
 pub fit-pixel-spec : {M : Type 1} → statement M
 fit-pixel-spec =
     tie.close
-    (tie.spec
-    place-requires
-    window-requires
-    enum-known-model
-    enum-told
-    put-found-requires
-    same-length
-    same-length-2
-    returns
-    div-place
-    div-place-2
-    place-requires-2
-    offsets-of-requires
-    put-found-requires-2
-    same-length-3
-    same-length-4
-    returns-2)
+    (tie.spec (λ c κs. search needs) window-requires (λ c. search needs) (λ c. search needs)
+    put-found-requires (λ c. search needs) (λ c. search needs) returns div-place div-place-2 place-requires-2
+    offsets-of-requires put-found-requires-2 (λ c. search needs) (λ c. search needs) returns-2)

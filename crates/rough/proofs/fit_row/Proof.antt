@@ -36,21 +36,12 @@ fit-pixel-requires c κs =
 add-x : tie.Need-add-x Inv-loop μ-loop
 add-x c = omega (arith, c .before .before .before .before .before .before .before .before .loop .inv .1, c .before .before .before .before .before .before .before .loop-test .taken, c .before .before .before .before .before .before .before .before .before .before .before .before .before .before .before .before .before .before .before .before .pre .0 .formed .wide .1)
 
-loop-less : tie.Need-loop-less Inv-loop μ-loop
-loop-less c = search needs
-
 loop-again : tie.Need-loop-again Inv-loop μ-loop
 unfolding scanRow
 loop-again c =
     let pixel = c .before .before .before .before .fit-pixel in
     let inv = c .before .before .before .before .before .before .before .before .loop .inv in
     (turns-more _ _ _ _ _ (inv .0) (pixel .ensures), omega arith, pixel .kept .0 ∙ inv .2, pixel .kept .1 .0 ∙ inv .3)
-
-same-length : tie.Need-same-length Inv-loop μ-loop
-same-length c = search needs
-
-same-length-2 : tie.Need-same-length-2 Inv-loop μ-loop
-same-length-2 c = search needs
 
 returns : tie.Need-returns Inv-loop μ-loop
 returns c =
@@ -60,14 +51,5 @@ returns c =
 pub fit-row-spec : {M : Type 1} → statement M
 fit-row-spec =
     tie.close
-    (tie.spec
-    Inv-loop
-    μ-loop
-    loop-holds
-    fit-pixel-requires
-    add-x
-    loop-less
-    loop-again
-    same-length
-    same-length-2
-    returns)
+    (tie.spec Inv-loop μ-loop loop-holds fit-pixel-requires add-x (λ c. search needs) loop-again
+    (λ c. search needs) (λ c. search needs) returns)

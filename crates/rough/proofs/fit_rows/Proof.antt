@@ -37,21 +37,12 @@ fit-row-requires c κs =
 add-y : tie.Need-add-y Inv-loop μ-loop
 add-y c = omega (arith, c .before .before .before .before .before .before .before .before .loop .inv .1, c .before .before .before .before .before .before .before .loop-test .taken, c .before .before .before .before .before .before .before .before .before .before .before .before .before .before .before .before .before .before .before .before .pre .formed .tall .1)
 
-loop-less : tie.Need-loop-less Inv-loop μ-loop
-loop-less c = search needs
-
 loop-again : tie.Need-loop-again Inv-loop μ-loop
 unfolding scan
 loop-again c =
     let row = c .before .before .before .before .fit-row in
     let inv = c .before .before .before .before .before .before .before .before .loop .inv in
     (turns-more _ _ _ _ _ (inv .0) (row .ensures), omega arith, row .kept .0 ∙ inv .2, row .kept .1 .0 ∙ inv .3)
-
-same-length : tie.Need-same-length Inv-loop μ-loop
-same-length c = search needs
-
-same-length-2 : tie.Need-same-length-2 Inv-loop μ-loop
-same-length-2 c = search needs
 
 returns : tie.Need-returns Inv-loop μ-loop
 returns c =
@@ -64,14 +55,5 @@ returns c =
 pub fit-rows-spec : {M : Type 1} → statement M
 fit-rows-spec =
     tie.close
-    (tie.spec
-    Inv-loop
-    μ-loop
-    loop-holds
-    fit-row-requires
-    add-y
-    loop-less
-    loop-again
-    same-length
-    same-length-2
-    returns)
+    (tie.spec Inv-loop μ-loop loop-holds fit-row-requires add-y (λ c. search needs) loop-again
+    (λ c. search needs) (λ c. search needs) returns)

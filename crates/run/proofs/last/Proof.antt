@@ -11,14 +11,8 @@ returns : tie.Need-returns
 unfolding turns sumFrom
 returns c = rw (c .if1 .taken) (record { sum = refl; few = omega arith })
 
-one-requires : tie.Need-one-requires
-one-requires c κs = search needs
-
 returns-2 : tie.Need-returns-2
 returns-2 c = rw (c .before .if2 .taken) (c .one .ensures)
-
-two-requires : tie.Need-two-requires
-two-requires c κs = search needs
 
 returns-3 : tie.Need-returns-3
 returns-3 c =
@@ -26,4 +20,4 @@ returns-3 c =
     rw e (c .two .ensures)
 
 pub last-spec : {M : Type 1} → statement M
-last-spec = tie.close (tie.spec returns one-requires returns-2 two-requires returns-3)
+last-spec = tie.close (tie.spec returns (λ c κs. search needs) returns-2 (λ c κs. search needs) returns-3)

@@ -13,9 +13,6 @@ use Rattle.run.proofs.one.Tie as tie
 byte : (c : tie.After-shared-slice-known) → getD (c .before .args .bytes .now) (c .before .args .k) 0 < 256
 byte c = c .shared-slice-known .given (c .before .args .k) .fits
 
-shared-slice-read-result : tie.Need-shared-slice-read-result
-shared-slice-read-result c = search needs
-
 cast-result : tie.Need-cast-result
 cast-result c = omega (arith, byte c)
 
@@ -27,4 +24,4 @@ unfolding turns sumFrom
 returns c = record { sum = rw (add-zero (c .before .args .k)); few = omega (arith, byte c) }
 
 pub one-spec : {M : Type 1} → statement M
-one-spec = tie.close (tie.spec shared-slice-read-result cast-result add-result returns)
+one-spec = tie.close (tie.spec (λ c. search needs) cast-result add-result returns)

@@ -21,20 +21,8 @@ Inv-loop still₀ first second pitch width height limit edge tolerance y below l
 abbrev μ-loop : tie.MeasureT-loop
 μ-loop still₀ first second pitch width height limit edge tolerance y below last x₀ still x = last - x
 
-after-requires : tie.Need-after-requires Inv-loop μ-loop
-after-requires c κs = search needs
-
-sub-last : tie.Need-sub-last Inv-loop μ-loop
-sub-last c = search needs
-
 loop-holds : tie.Need-loop-holds Inv-loop μ-loop
 loop-holds c = (row-none _ _ _ _, omega arith, refl)
-
-place-requires : tie.Need-place-requires Inv-loop μ-loop
-place-requires c κs = search needs
-
-add-same-at : tie.Need-add-same-at Inv-loop μ-loop
-add-same-at c = search needs
 
 same-at-requires : tie.Need-same-at-requires Inv-loop μ-loop
 same-at-requires c κs =
@@ -49,15 +37,6 @@ same-at-requires c κs =
     let under : a .result < start .args .height = omega (arith, a .ensures) in
     (around x (x + 1) y (a .result) (fits .1) in-row beside (fits .4) under, around x (x + 1) y (a .result) (fits .2) in-row beside (fits .4) under)
 
-slice-write-still : tie.Need-slice-write-still Inv-loop μ-loop
-slice-write-still c = search needs
-
-add-x : tie.Need-add-x Inv-loop μ-loop
-add-x c = search needs
-
-loop-less : tie.Need-loop-less Inv-loop μ-loop
-loop-less c = search needs
-
 loop-again : tie.Need-loop-again Inv-loop μ-loop
 loop-again c =
     let p = c .before in
@@ -66,9 +45,6 @@ loop-again c =
     let right : l .loop .x + 1 ≡ after (l .loop .x) (a .width) = omega arith in
     let value = c .same-at .ensures ∙ same-here _ _ (a .width, a .height) _ (l .loop .x) _ (a .y) _ right (l .before .after .ensures) in
     (rw (p .place .ensures) (row-more _ (l .loop .inv .0) value), omega arith, simp length-set (l .loop .inv .2))
-
-place-requires-2 : tie.Need-place-requires-2 Inv-loop μ-loop
-place-requires-2 c κs = search needs
 
 same-at-requires-2 : tie.Need-same-at-requires-2 Inv-loop μ-loop
 same-at-requires-2 c κs =
@@ -80,12 +56,6 @@ same-at-requires-2 c κs =
     let in-row : last < start .args .width = omega arith in
     let under : a .result < start .args .height = omega (arith, a .ensures) in
     (around last last y (a .result) (fits .1) in-row in-row (fits .4) under, around last last y (a .result) (fits .2) in-row in-row (fits .4) under)
-
-slice-write-still-2 : tie.Need-slice-write-still-2 Inv-loop μ-loop
-slice-write-still-2 c = search needs
-
-same-length : tie.Need-same-length Inv-loop μ-loop
-same-length c = search needs
 
 returns : tie.Need-returns Inv-loop μ-loop
 returns c =
@@ -102,21 +72,6 @@ returns c =
 pub same-row-spec : {M : Type 1} → statement M
 same-row-spec =
     tie.close
-    (tie.spec
-    Inv-loop
-    μ-loop
-    after-requires
-    sub-last
-    loop-holds
-    place-requires
-    add-same-at
-    same-at-requires
-    slice-write-still
-    add-x
-    loop-less
-    loop-again
-    place-requires-2
-    same-at-requires-2
-    slice-write-still-2
-    same-length
-    returns)
+    (tie.spec Inv-loop μ-loop (λ c κs. search needs) (λ c. search needs) loop-holds (λ c κs. search needs)
+    (λ c. search needs) same-at-requires (λ c. search needs) (λ c. search needs) (λ c. search needs)
+    loop-again (λ c κs. search needs) same-at-requires-2 (λ c. search needs) (λ c. search needs) returns)

@@ -3,15 +3,6 @@ use borrow.Author.Needs.{needs}
 use Rattle.sample.proofs.between.Statement.{statement}
 use Rattle.sample.proofs.between.Tie as tie
 
-whole-requires : tie.Need-whole-requires
-whole-requires c κs = search needs
-
-after-requires : tie.Need-after-requires
-after-requires c κs = search needs
-
-of-size-requires : tie.Need-of-size-requires
-of-size-requires c κs = search needs
-
 returns : tie.Need-returns
 returns c =
     record {
@@ -21,4 +12,5 @@ returns c =
     }
 
 pub between-spec : {M : Type 1} → statement M
-between-spec = tie.close (tie.spec whole-requires after-requires of-size-requires returns)
+between-spec =
+    tie.close (tie.spec (λ c κs. search needs) (λ c κs. search needs) (λ c κs. search needs) returns)

@@ -12,12 +12,6 @@ use Rattle.sample.proofs.held.Tie as tie
 low-is : (j : tie.Joined1) → j .if1 .low ≡ cond (j .before .args .x ≺ 0·0) 0·0 (j .before .args .x)
 low-is j = ⊎-elim (λ w. w .1 ∙ rw (w .0 .taken)) (λ w. w .1 ∙ rw (w .0 .left)) (j .if1 .came)
 
-sub-of-size : tie.Need-sub-of-size
-sub-of-size c = search needs
-
-of-size-requires : tie.Need-of-size-requires
-of-size-requires c κs = search needs
-
 returns : tie.Need-returns
 returns c =
     let j = c .before .before in
@@ -31,4 +25,4 @@ returns-2 c =
     laws.held (a .x) (j .if1 .low) (a .size) (j .before .pre) (rw (← (low-is j), ← (c .before .of-size .ensures), c .if2 .left))
 
 pub held-spec : {M : Type 1} → statement M
-held-spec = tie.close (tie.spec sub-of-size of-size-requires returns returns-2)
+held-spec = tie.close (tie.spec (λ c. search needs) (λ c κs. search needs) returns returns-2)

@@ -5,18 +5,10 @@ use Rattle.sample.specs.Points.{sampledAt, sampledRow}
 use Rattle.sample.proofs.sample.Statement.{statement}
 use Rattle.sample.proofs.sample.Tie as tie
 
-between-requires : tie.Need-between-requires
-between-requires c κs = search needs
-
-between-requires-2 : tie.Need-between-requires-2
-between-requires-2 c κs = search needs
-
-sample-at-requires : tie.Need-sample-at-requires
-sample-at-requires c κs = search needs
-
 returns : tie.Need-returns
 unfolding sample sampledAt sampledRow
 returns c = rw (c .sample-at .ensures, c .before .between2 .ensures .is, c .before .before .between .ensures .is)
 
 pub sample-spec : {M : Type 1} → statement M
-sample-spec = tie.close (tie.spec between-requires between-requires-2 sample-at-requires returns)
+sample-spec =
+    tie.close (tie.spec (λ c κs. search needs) (λ c κs. search needs) (λ c κs. search needs) returns)

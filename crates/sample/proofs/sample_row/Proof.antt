@@ -18,12 +18,9 @@ at-requires-2 c κs =
     let b = byte-in (s .args .across .second) (s .args .y) (s .pre .0) (s .pre .2) (s .pre .3) in
     omega arith
 
-mix-requires : tie.Need-mix-requires
-mix-requires c κs = search needs
-
 returns : tie.Need-returns
 unfolding sampledRow
 returns c = rw (c .mix .ensures, c .before .at2 .ensures, c .before .before .at .ensures)
 
 pub sample-row-spec : {M : Type 1} → statement M
-sample-row-spec = tie.close (tie.spec at-requires at-requires-2 mix-requires returns)
+sample-row-spec = tie.close (tie.spec at-requires at-requires-2 (λ c κs. search needs) returns)

@@ -14,15 +14,9 @@ use Rattle.sample.proofs.whole.Tie as tie
 at-start : (c : tie.Start) (q : Float) → q ≡ positiveOf (c .args .x) → Cuts (c .args .x) q (there-and-back q)
 at-start c q e = cuts (c .args .x) q (c .pre) e
 
-positive-requires : tie.Need-positive-requires
-positive-requires c κs = search needs
-
 float-to-int-n : tie.Need-float-to-int-n
 unfolding ofBits
 float-to-int-n c = at-start (c .before .before) (c .before .positive .result) (c .before .positive .ensures) .whole
-
-one-if-requires : tie.Need-one-if-requires
-one-if-requires c κs = search needs
 
 sub-result : tie.Need-sub-result
 unfolding ofBits
@@ -43,4 +37,4 @@ returns c =
 pub whole-spec : {M : Type 1} → statement M
 whole-spec =
     tie.close
-    (tie.spec positive-requires float-to-int-n one-if-requires sub-result cast-result returns)
+    (tie.spec (λ c κs. search needs) float-to-int-n (λ c κs. search needs) sub-result cast-result returns)

@@ -12,26 +12,8 @@ use Rattle.stats.proofs.stats_on.Tie as tie
 abbrev grid : tie.Else1 → Grid
 grid c = c .before .before .before .before .before .before .before .before .before .before .before .before .before .before .before .before .before .before .args .grid
 
-stats-refusal-requires : tie.Need-stats-refusal-requires
-stats-refusal-requires c κs = search needs
-
-same-length : tie.Need-same-length
-same-length c = search needs
-
-same-length-2 : tie.Need-same-length-2
-same-length-2 c = search needs
-
-same-length-3 : tie.Need-same-length-3
-same-length-3 c = search needs
-
 returns : tie.Need-returns
 returns c = refused _ _ (c .before .stats-refusal .ensures) (c .if1 .taken)
-
-divided-requires : tie.Need-divided-requires
-divided-requires c κs = search needs
-
-divided-requires-2 : tie.Need-divided-requires-2
-divided-requires-2 c κs = search needs
 
 gather-requires : tie.Need-gather-requires
 gather-requires c κs =
@@ -53,15 +35,6 @@ gather-requires-3 c κs =
     let r = runs _ (grid test) (sym (test .before .stats-refusal .ensures) ∙ test .if1 .left) refl in
     (rw (d .divided2 .ensures, d .before .divided .ensures) (r .on-second), inr refl, rw (d .divided2 .ensures, d .before .divided .ensures) (r .second-long))
 
-same-length-4 : tie.Need-same-length-4
-same-length-4 c = search needs
-
-same-length-5 : tie.Need-same-length-5
-same-length-5 c = search needs
-
-same-length-6 : tie.Need-same-length-6
-same-length-6 c = search needs
-
 returns-2 : tie.Need-returns-2
 unfolding statsSums
 returns-2 c =
@@ -77,18 +50,6 @@ returns-2 c =
 pub stats-on-spec : {M : Type 1} → statement M
 stats-on-spec =
     tie.close
-    (tie.spec
-    stats-refusal-requires
-    same-length
-    same-length-2
-    same-length-3
-    returns
-    divided-requires
-    divided-requires-2
-    gather-requires
-    gather-requires-2
-    gather-requires-3
-    same-length-4
-    same-length-5
-    same-length-6
-    returns-2)
+    (tie.spec (λ c κs. search needs) (λ c. search needs) (λ c. search needs) (λ c. search needs) returns
+    (λ c κs. search needs) (λ c κs. search needs) gather-requires gather-requires-2 gather-requires-3
+    (λ c. search needs) (λ c. search needs) (λ c. search needs) returns-2)

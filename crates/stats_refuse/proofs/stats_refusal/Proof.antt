@@ -8,75 +8,6 @@ use Rattle.stats_refuse.proofs.Table.{told}
 use Rattle.stats_refuse.proofs.stats_refusal.Statement.{statement}
 use Rattle.stats_refuse.proofs.stats_refusal.Tie as tie
 
-divided-requires : tie.Need-divided-requires
-divided-requires c κs = search needs
-
-divided-requires-2 : tie.Need-divided-requires-2
-divided-requires-2 c κs = search needs
-
-sized-requires : tie.Need-sized-requires
-sized-requires c κs = search needs
-
-sized-requires-2 : tie.Need-sized-requires-2
-sized-requires-2 c κs = search needs
-
-both-requires : tie.Need-both-requires
-both-requires c κs = search needs
-
-ratioed-requires : tie.Need-ratioed-requires
-ratioed-requires c κs = search needs
-
-two-pitched-requires : tie.Need-two-pitched-requires
-two-pitched-requires c κs = search needs
-
-four-pitched-requires : tie.Need-four-pitched-requires
-four-pitched-requires c κs = search needs
-
-two-planed-requires : tie.Need-two-planed-requires
-two-planed-requires c κs = search needs
-
-four-planed-requires : tie.Need-four-planed-requires
-four-planed-requires c κs = search needs
-
-exact-planes-requires : tie.Need-exact-planes-requires
-exact-planes-requires c κs = search needs
-
-motion-lengths-requires : tie.Need-motion-lengths-requires
-motion-lengths-requires c κs = search needs
-
-motion-numbers-requires : tie.Need-motion-numbers-requires
-motion-numbers-requires c κs = search needs
-
-unless-requires : tie.Need-unless-requires
-unless-requires c κs = search needs
-
-unless-requires-2 : tie.Need-unless-requires-2
-unless-requires-2 c κs = search needs
-
-unless-requires-3 : tie.Need-unless-requires-3
-unless-requires-3 c κs = search needs
-
-unless-requires-4 : tie.Need-unless-requires-4
-unless-requires-4 c κs = search needs
-
-unless-requires-5 : tie.Need-unless-requires-5
-unless-requires-5 c κs = search needs
-
-unless-requires-6 : tie.Need-unless-requires-6
-unless-requires-6 c κs = search needs
-
-unless-requires-7 : tie.Need-unless-requires-7
-unless-requires-7 c κs = search needs
-
-unless-requires-8 : tie.Need-unless-requires-8
-unless-requires-8 c κs = search needs
-
-unless-requires-9 : tie.Need-unless-requires-9
-unless-requires-9 c κs = search needs
-
-unless-requires-10 : tie.Need-unless-requires-10
-unless-requires-10 c κs = search needs
-
 returns : tie.Need-returns
 unfolding each
 returns c =
@@ -114,28 +45,9 @@ returns c =
 pub stats-refusal-spec : {M : Type 1} → statement M
 stats-refusal-spec =
     tie.close
-    (tie.spec
-    divided-requires
-    divided-requires-2
-    sized-requires
-    sized-requires-2
-    both-requires
-    ratioed-requires
-    two-pitched-requires
-    four-pitched-requires
-    two-planed-requires
-    four-planed-requires
-    exact-planes-requires
-    motion-lengths-requires
-    motion-numbers-requires
-    unless-requires
-    unless-requires-2
-    unless-requires-3
-    unless-requires-4
-    unless-requires-5
-    unless-requires-6
-    unless-requires-7
-    unless-requires-8
-    unless-requires-9
-    unless-requires-10
-    returns)
+    (tie.spec (λ c κs. search needs) (λ c κs. search needs) (λ c κs. search needs) (λ c κs. search needs)
+    (λ c κs. search needs) (λ c κs. search needs) (λ c κs. search needs) (λ c κs. search needs)
+    (λ c κs. search needs) (λ c κs. search needs) (λ c κs. search needs) (λ c κs. search needs)
+    (λ c κs. search needs) (λ c κs. search needs) (λ c κs. search needs) (λ c κs. search needs)
+    (λ c κs. search needs) (λ c κs. search needs) (λ c κs. search needs) (λ c κs. search needs)
+    (λ c κs. search needs) (λ c κs. search needs) (λ c κs. search needs) returns)

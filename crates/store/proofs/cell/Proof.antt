@@ -7,9 +7,6 @@ use lib.Arith.{digits-lt}
 use Rattle.store.proofs.cell.Statement.{statement}
 use Rattle.store.proofs.cell.Tie as tie
 
-place-requires : tie.Need-place-requires
-place-requires c κs = search needs
-
 shared-slice-read-result : tie.Need-shared-slice-read-result
 shared-slice-read-result c =
     let s = c .before .before .before .before .before in
@@ -25,5 +22,4 @@ returns-3 : tie.Need-returns-3
 returns-3 c = sym (simp (le-ltb _ _ (c .if1 .left)))
 
 pub cell-spec : {M : Type 1} → statement M
-cell-spec =
-    tie.close (tie.spec place-requires shared-slice-read-result returns returns-2 returns-3)
+cell-spec = tie.close (tie.spec (λ c κs. search needs) shared-slice-read-result returns returns-2 returns-3)

@@ -29,12 +29,6 @@ put-chroma-requires c κs =
     let s = l .before .before .before in
     (s .pre .0, l .loop .inv .2 ∙ s .pre .1, record { plane-is = (s .pre .2, s .pre .3); left = c .before .loop-test .taken; above = s .pre .4 })
 
-add-x : tie.Need-add-x Inv-loop μ-loop
-add-x c = search needs
-
-loop-less : tie.Need-loop-less Inv-loop μ-loop
-loop-less c = search needs
-
 loop-again : tie.Need-loop-again Inv-loop μ-loop
 loop-again c =
     let put = c .before .put-chroma in
@@ -46,9 +40,6 @@ loop-again c =
     let inside = point-in (a .g) (l .loop .x) (a .y) (c .before .before .before .loop-test .taken) (s .pre .4) in
     (rw (← add-assoc (a .y * a .g .half) (l .loop .x) 1) (paired-more (inv .0) (omega arith) (put .ensures)), omega arith, put .kept .0 ∙ inv .2)
 
-same-length : tie.Need-same-length Inv-loop μ-loop
-same-length c = search needs
-
 returns : tie.Need-returns Inv-loop μ-loop
 returns c =
     let at-loop = c .before .loop in
@@ -57,13 +48,5 @@ returns c =
 pub chroma-run-spec : {M : Type 1} → statement M
 chroma-run-spec =
     tie.close
-    (tie.spec
-    Inv-loop
-    μ-loop
-    loop-holds
-    put-chroma-requires
-    add-x
-    loop-less
-    loop-again
-    same-length
-    returns)
+    (tie.spec Inv-loop μ-loop loop-holds put-chroma-requires (λ c. search needs) (λ c. search needs)
+    loop-again (λ c. search needs) returns)

@@ -20,15 +20,6 @@ abbrev μ-loop : tie.MeasureT-loop
 loop-holds : tie.Need-loop-holds Inv-loop μ-loop
 loop-holds c = (paired-none _ _ _ _, omega arith, omega arith, refl)
 
-put-luma-requires : tie.Need-put-luma-requires Inv-loop μ-loop
-put-luma-requires c κs = search needs
-
-add-at : tie.Need-add-at Inv-loop μ-loop
-add-at c = search needs
-
-loop-less : tie.Need-loop-less Inv-loop μ-loop
-loop-less c = search needs
-
 loop-again : tie.Need-loop-again Inv-loop μ-loop
 loop-again c =
     let put = c .before .put-luma in
@@ -38,9 +29,6 @@ loop-again c =
     let kept = put .kept .0 in
     (paired-more (inv .0) (omega arith) (put .ensures), omega arith, omega arith, put .kept .0 ∙ inv .3)
 
-same-length : tie.Need-same-length Inv-loop μ-loop
-same-length c = search needs
-
 returns : tie.Need-returns Inv-loop μ-loop
 returns c =
     let at-loop = c .before .loop in
@@ -49,13 +37,5 @@ returns c =
 pub luma-run-spec : {M : Type 1} → statement M
 luma-run-spec =
     tie.close
-    (tie.spec
-    Inv-loop
-    μ-loop
-    loop-holds
-    put-luma-requires
-    add-at
-    loop-less
-    loop-again
-    same-length
-    returns)
+    (tie.spec Inv-loop μ-loop loop-holds (λ c κs. search needs) (λ c. search needs) (λ c. search needs)
+    loop-again (λ c. search needs) returns)

@@ -5,20 +5,11 @@ use Rattle.rules.specs.Assembly.{modelSlice}
 use mathlib.Core.Path.{_∙_}
 use native.Mathlib.Omega.{arith}
 use mir.Syntax.{w16, w32}
-use Rattle.offsets.proofs.Signed.{back}
+use Rattle.laws.proofs.Signed.{back}
 use Rattle.store.proofs.Chroma.{point-in, first-is, second-is, total-fits}
 use borrow.Author.Needs.{needs}
 use Rattle.store.proofs.put_chroma.Statement.{statement}
 use Rattle.store.proofs.put_chroma.Tie as tie
-
-place-requires : tie.Need-place-requires
-place-requires c κs = search needs
-
-place-requires-2 : tie.Need-place-requires-2
-place-requires-2 c κs = search needs
-
-chroma-total-requires : tie.Need-chroma-total-requires
-chroma-total-requires c κs = search needs
 
 cast-first : tie.Need-cast-first
 cast-first c =
@@ -26,18 +17,12 @@ cast-first c =
     let a = s .args in
     rw (back w32 (c .chroma-total .result) (c .chroma-total .ok), c .chroma-total .ensures) (total-fits (a .g) (a .models .now) (a .cover .now) (a .plane) (a .x) (a .y) (s .pre .0) (s .pre .2))
 
-tail-requires : tie.Need-tail-requires
-tail-requires c κs = search needs
-
 put-pair-requires : tie.Need-put-pair-requires
 put-pair-requires c κs =
     let s = c .before .before .before .before .before .before .before in
     let a = s .args in
     let long = s .pre .1 in
     omega (arith, c .before .before .before .before .place .ensures, c .before .before .before .place2 .ensures, point-in (a .g) (a .x) (a .y) (s .pre .2 .left) (s .pre .2 .above))
-
-same-length : tie.Need-same-length
-same-length c = search needs
 
 returns : tie.Need-returns
 returns c =
@@ -55,12 +40,5 @@ returns c =
 pub put-chroma-spec : {M : Type 1} → statement M
 put-chroma-spec =
     tie.close
-    (tie.spec
-    place-requires
-    place-requires-2
-    chroma-total-requires
-    cast-first
-    tail-requires
-    put-pair-requires
-    same-length
-    returns)
+    (tie.spec (λ c κs. search needs) (λ c κs. search needs) (λ c κs. search needs) cast-first
+    (λ c κs. search needs) put-pair-requires (λ c. search needs) returns)

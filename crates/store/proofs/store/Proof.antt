@@ -29,26 +29,11 @@ store-row-requires c κs =
     let room = s .pre .1 in
     (s .pre .0, record { luma-long = inv .2 ∙ room .luma-long; first-long = inv .3 ∙ room .first-long; second-long = inv .4 ∙ room .second-long }, c .before .before .before .loop-test .taken)
 
-add-y : tie.Need-add-y Inv-loop μ-loop
-add-y c = search needs
-
-loop-less : tie.Need-loop-less Inv-loop μ-loop
-loop-less c = search needs
-
 loop-again : tie.Need-loop-again Inv-loop μ-loop
 loop-again c =
     let row = c .before .before .before .store-row in
     let inv = c .before .before .before .before .before .before .before .before .loop .inv in
     (rows-join (inv .0) (row .ensures), omega arith, row .kept .0 ∙ inv .2, row .kept .1 .0 ∙ inv .3, row .kept .1 .1 .0 ∙ inv .4)
-
-same-length : tie.Need-same-length Inv-loop μ-loop
-same-length c = search needs
-
-same-length-2 : tie.Need-same-length-2 Inv-loop μ-loop
-same-length-2 c = search needs
-
-same-length-3 : tie.Need-same-length-3 Inv-loop μ-loop
-same-length-3 c = search needs
 
 returns : tie.Need-returns Inv-loop μ-loop
 returns c =
@@ -62,15 +47,5 @@ returns c =
 pub store-spec : {M : Type 1} → statement M
 store-spec =
     tie.close
-    (tie.spec
-    Inv-loop
-    μ-loop
-    loop-holds
-    store-row-requires
-    add-y
-    loop-less
-    loop-again
-    same-length
-    same-length-2
-    same-length-3
-    returns)
+    (tie.spec Inv-loop μ-loop loop-holds store-row-requires (λ c. search needs) (λ c. search needs) loop-again
+    (λ c. search needs) (λ c. search needs) (λ c. search needs) returns)

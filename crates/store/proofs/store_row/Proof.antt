@@ -7,12 +7,6 @@ use borrow.Author.Needs.{needs}
 use Rattle.store.proofs.store_row.Statement.{statement}
 use Rattle.store.proofs.store_row.Tie as tie
 
-place-requires : tie.Need-place-requires
-place-requires c κs = search needs
-
-place-requires-2 : tie.Need-place-requires-2
-place-requires-2 c κs = search needs
-
 -- the luma pixels of the row
 module _ (c : tie.After-place2) where
   abbrev start : tie.Start
@@ -43,21 +37,6 @@ luma-run-requires c κs =
     let luma-long = s .pre .1 .luma-long in
     rw (pixels-is (c .before)) (record { up = omega arith; inside = inside (c .before); models-long = omega arith; luma-long = omega arith })
 
-chroma-run-requires : tie.Need-chroma-run-requires
-chroma-run-requires c κs = search needs
-
-chroma-run-requires-2 : tie.Need-chroma-run-requires-2
-chroma-run-requires-2 c κs = search needs
-
-same-length : tie.Need-same-length
-same-length c = search needs
-
-same-length-2 : tie.Need-same-length-2
-same-length-2 c = search needs
-
-same-length-3 : tie.Need-same-length-3
-same-length-3 c = search needs
-
 returns : tie.Need-returns
 returns c =
     let l = c .before .before .before .before .before .before .before in
@@ -67,15 +46,6 @@ returns c =
 pub store-row-spec : {M : Type 1} → statement M
 store-row-spec =
     tie.close
-    (tie.spec
-    place-requires
-    place-requires-2
-    mul-lo
-    add-luma-run
-    luma-run-requires
-    chroma-run-requires
-    chroma-run-requires-2
-    same-length
-    same-length-2
-    same-length-3
+    (tie.spec (λ c κs. search needs) (λ c κs. search needs) mul-lo add-luma-run luma-run-requires
+    (λ c κs. search needs) (λ c κs. search needs) (λ c. search needs) (λ c. search needs) (λ c. search needs)
     returns)

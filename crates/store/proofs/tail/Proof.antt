@@ -13,19 +13,10 @@ returns : tie.Need-returns
 unfolding tailEntry
 returns c = sym (simp (eq-eqb _ _ (c .if1 .taken)))
 
-cells-requires : tie.Need-cells-requires
-cells-requires c κs = search needs
-
-cells-requires-2 : tie.Need-cells-requires-2
-cells-requires-2 c κs = search needs
-
 cell-requires : tie.Need-cell-requires
 cell-requires c κs =
     let s = c .before .before .before .before in
     rw (c .before .cells .ensures, c .cells2 .ensures) (covered (s .args .g) (s .args .cover .now) (s .pre .0) (s .pre .1))
-
-cast-result : tie.Need-cast-result
-cast-result c = search needs
 
 returns-2 : tie.Need-returns-2
 returns-2 c =
@@ -37,4 +28,5 @@ returns-2 c =
 pub tail-spec : {M : Type 1} → statement M
 tail-spec =
     tie.close
-    (tie.spec returns cells-requires cells-requires-2 cell-requires cast-result returns-2)
+    (tie.spec returns (λ c κs. search needs) (λ c κs. search needs) cell-requires (λ c. search needs)
+    returns-2)

@@ -24,9 +24,6 @@ abbrev μ-loop : tie.MeasureT-loop
 loop-holds : tie.Need-loop-holds Inv-loop μ-loop
 loop-holds c = (block-none _ _ _ _ _, omega arith, refl)
 
-place-requires : tie.Need-place-requires Inv-loop μ-loop
-place-requires c κs = search needs
-
 gain-row-requires : tie.Need-gain-row-requires Inv-loop μ-loop
 gain-row-requires c κs =
     let at-loop = c .before .before .loop in
@@ -35,12 +32,6 @@ gain-row-requires c κs =
       rw (c .place .ensures) (row-fits (s .args .p) (s .args .x) (s .args .y) h (s .pre .1) _ (s .pre .2) (at-loop .dy) (c .before .loop-test .taken)),
       omega (arith, at-loop .inv .0 .small, c .before .loop-test .taken, h .span),
     )
-
-add-dy : tie.Need-add-dy Inv-loop μ-loop
-add-dy c = search needs
-
-loop-less : tie.Need-loop-less Inv-loop μ-loop
-loop-less c = search needs
 
 loop-again : tie.Need-loop-again Inv-loop μ-loop
 loop-again c =
@@ -60,13 +51,5 @@ returns c =
 pub gain-block-spec : {M : Type 1} → statement M
 gain-block-spec =
     tie.close
-    (tie.spec
-    Inv-loop
-    μ-loop
-    loop-holds
-    place-requires
-    gain-row-requires
-    add-dy
-    loop-less
-    loop-again
-    returns)
+    (tie.spec Inv-loop μ-loop loop-holds (λ c κs. search needs) gain-row-requires (λ c. search needs)
+    (λ c. search needs) loop-again returns)

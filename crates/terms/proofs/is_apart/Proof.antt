@@ -8,12 +8,6 @@ use Rattle.terms.proofs.Apart.{bit, both-signs}
 use Rattle.terms.proofs.is_apart.Statement.{statement}
 use Rattle.terms.proofs.is_apart.Tie as tie
 
-past-requires : tie.Need-past-requires
-past-requires c κs = search needs
-
-past-requires-2 : tie.Need-past-requires-2
-past-requires-2 c κs = search needs
-
 add-result : tie.Need-add-result
 add-result c =
     let d = c .before .before .args .a ⊖ c .before .before .args .b in
@@ -26,4 +20,4 @@ returns c =
     rw (c .past2 .ensures, c .before .past .ensures) (both-signs (c .before .before .args .a ⊖ c .before .before .args .b))
 
 pub is-apart-spec : {M : Type 1} → statement M
-is-apart-spec = tie.close (tie.spec past-requires past-requires-2 add-result returns)
+is-apart-spec = tie.close (tie.spec (λ c κs. search needs) (λ c κs. search needs) add-result returns)

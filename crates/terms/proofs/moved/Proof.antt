@@ -4,18 +4,9 @@ use Rattle.terms.specs.Terms.{movedOf}
 use Rattle.terms.proofs.moved.Statement.{statement}
 use Rattle.terms.proofs.moved.Tie as tie
 
-shifted-requires : tie.Need-shifted-requires
-shifted-requires c κs = search needs
-
-shifted-requires-2 : tie.Need-shifted-requires-2
-shifted-requires-2 c κs = search needs
-
-sample-requires : tie.Need-sample-requires
-sample-requires c κs = search needs
-
 returns : tie.Need-returns
 unfolding movedOf
 returns c = rw (c .sample .ensures, c .before .shifted2 .ensures .is, c .before .before .shifted .ensures .is)
 
 pub moved-spec : {M : Type 1} → statement M
-moved-spec = tie.close (tie.spec shifted-requires shifted-requires-2 sample-requires returns)
+moved-spec = tie.close (tie.spec (λ c κs. search needs) (λ c κs. search needs) (λ c κs. search needs) returns)

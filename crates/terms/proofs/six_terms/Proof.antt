@@ -8,12 +8,6 @@ use Rattle.terms.proofs.Apart.{bit}
 use Rattle.terms.proofs.six_terms.Statement.{statement}
 use Rattle.terms.proofs.six_terms.Tie as tie
 
-is-apart-requires : tie.Need-is-apart-requires
-is-apart-requires c κs = search needs
-
-is-apart-requires-2 : tie.Need-is-apart-requires-2
-is-apart-requires-2 c κs = search needs
-
 add-apart : tie.Need-add-apart
 add-apart c =
     let a = c .before .before .args in
@@ -34,4 +28,4 @@ returns c = rw (c .of-size .ensures, c .before .is-apart2 .ensures, c .before .b
 
 pub six-terms-spec : {M : Type 1} → statement M
 six-terms-spec =
-    tie.close (tie.spec is-apart-requires is-apart-requires-2 add-apart of-size-requires returns)
+    tie.close (tie.spec (λ c κs. search needs) (λ c κs. search needs) add-apart of-size-requires returns)

@@ -6,12 +6,6 @@ use Rattle.terms.specs.Terms.{termsBy}
 use Rattle.terms.proofs.terms_by.Statement.{statement}
 use Rattle.terms.proofs.terms_by.Tie as tie
 
-moved-requires : tie.Need-moved-requires
-moved-requires c κs = search needs
-
-moved-requires-2 : tie.Need-moved-requires-2
-moved-requires-2 c κs = search needs
-
 at-requires : tie.Need-at-requires
 at-requires c κs =
     let s = c .before .before .before .before in
@@ -24,9 +18,6 @@ at-requires-2 c κs =
     let b = byte-in (s .args .x) (s .args .y) (s .pre .0) (s .pre .2) (s .pre .3) in
     omega (arith, s .pre .0)
 
-six-terms-requires : tie.Need-six-terms-requires
-six-terms-requires c κs = search needs
-
 returns : tie.Need-returns
 unfolding termsBy
 returns c = rw (c .six-terms .ensures, c .before .at2 .ensures, c .before .before .at .ensures, c .before .before .before .moved2 .ensures, c .before .before .before .before .moved .ensures)
@@ -34,4 +25,5 @@ returns c = rw (c .six-terms .ensures, c .before .at2 .ensures, c .before .befor
 pub terms-by-spec : {M : Type 1} → statement M
 terms-by-spec =
     tie.close
-    (tie.spec moved-requires moved-requires-2 at-requires at-requires-2 six-terms-requires returns)
+    (tie.spec (λ c κs. search needs) (λ c κs. search needs) at-requires at-requires-2 (λ c κs. search needs)
+    returns)

@@ -3,21 +3,22 @@ use native.Mathlib.Nat.{mul-le-mul}
 use native.Mathlib.Omega.{arith}
 use mir.Syntax.{w32}
 use Rattle.lent.proofs.Signed.{back}
-use Rattle.texel.proofs.Fifth.{in-float, scale-one, scale-four}
+use Rattle.texel.proofs.Fifth.{scale-four}
+use Rattle.stored.proofs.Texels.{scale-one}
+use Rattle.laws.proofs.Signed.{in-float}
+use native.Mathlib.Nat.{le-trans}
+use lib.Dec.{lit≤}
 use Rattle.texel.proofs.gain_of.Statement.{statement}
 use Rattle.texel.proofs.gain_of.Tie as tie
-use Rattle.texel.proofs.gain_of.Reads as reads
-use Rattle.texel.proofs.gain_of.Lts as lts
-use Rattle.float.proofs.of_size.Reads as of-size-reads
 
 int-to-float-result : tie.Need-int-to-float-result
-int-to-float-result c = let s = c .before .before in rw (back w32 (s .args .total) (s .fits .total .sfits)) (in-float (s .args .total) (s .pre .0))
+int-to-float-result c = let s = c .before .before in rw (back w32 (s .args .total) (s .fits .total .sfits)) (in-float (s .args .total) (le-trans (s .pre .0) (lit≤ tt)))
 
 int-to-float-result-2 : tie.Need-int-to-float-result-2
-int-to-float-result-2 c = let s = c .before .before .before in rw (back w32 (s .args .total) (s .fits .total .sfits)) (in-float (s .args .total) (s .pre .0))
+int-to-float-result-2 c = let s = c .before .before .before in rw (back w32 (s .args .total) (s .fits .total .sfits)) (in-float (s .args .total) (le-trans (s .pre .0) (lit≤ tt)))
 
 int-to-float-result-3 : tie.Need-int-to-float-result-3
-int-to-float-result-3 c = let s = c .before .before .before in rw (back w32 (s .args .total) (s .fits .total .sfits)) (in-float (s .args .total) (s .pre .0))
+int-to-float-result-3 c = let s = c .before .before .before in rw (back w32 (s .args .total) (s .fits .total .sfits)) (in-float (s .args .total) (le-trans (s .pre .0) (lit≤ tt)))
 
 mul-of-size : tie.Need-mul-of-size
 mul-of-size c = let s = c .before .before .before in omega (arith, mul-le-mul (s .pre .1) (s .pre .1))
@@ -37,12 +38,5 @@ returns-3 c = let s = c .before .before .before .before in rw (back w32 (s .args
 pub gain-of-spec : {M : Type 1} → statement M
 gain-of-spec =
     tie.close
-    (tie.spec
-    int-to-float-result
-    returns
-    int-to-float-result-2
-    returns-2
-    int-to-float-result-3
-    mul-of-size
-    of-size-requires
-    returns-3)
+    (tie.spec int-to-float-result returns int-to-float-result-2 returns-2 int-to-float-result-3 mul-of-size
+    of-size-requires returns-3)

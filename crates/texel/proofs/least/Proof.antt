@@ -2,8 +2,6 @@
 use borrow.Author.Tests.{eq-eqb, ne-eqb}
 use Rattle.texel.proofs.least.Statement.{statement}
 use Rattle.texel.proofs.least.Tie as tie
-use Rattle.texel.proofs.least.Reads as reads
-use Rattle.texel.proofs.least.Lts as lts
 
 -- src/lib.rt:35:1
 returns : tie.Need-returns

@@ -15,10 +15,6 @@ use Rattle.texel.proofs.strong.Tie as tie
 least-is : (c : tie.After-least) → toZ w32 (ofZ w32 (c .least .result)) ≡ pos (leastOf (c .before .args .span))
 least-is c = back w32 (c .least .result) (c .least .ok) ∙ c .least .ensures
 
--- src/lib.rt:47:9
-least-requires : tie.Need-least-requires
-least-requires c κs = search needs
-
 -- src/lib.rt:48:32
 sub-result : tie.Need-sub-result
 sub-result c = rw (least-is (c .before), nought (negℤ (pos (leastOf (c .before .before .args .span))))) (minus-fits (c .before .before .args .span))
@@ -46,4 +42,4 @@ returns-2 c =
     ∙ sym (fifth-test (a .total) (s .pre .0) (a .span) (s .pre .1) (s .pre .2) (s .pre .3))
 
 pub strong-spec : {M : Type 1} → statement M
-strong-spec = tie.close (tie.spec least-requires sub-result returns returns-2)
+strong-spec = tie.close (tie.spec (λ c κs. search needs) sub-result returns returns-2)

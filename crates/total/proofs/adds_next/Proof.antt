@@ -3,23 +3,14 @@ use borrow.Author.Needs.{needs}
 use Rattle.total.proofs.adds_next.Statement.{statement}
 use Rattle.total.proofs.adds_next.Tie as tie
 
-enum-told : tie.Need-enum-told
-enum-told c = search needs
-
-enum-told-2 : tie.Need-enum-told-2
-enum-told-2 c = search needs
-
-enum-told-3 : tie.Need-enum-told-3
-enum-told-3 c = search needs
-
 returns : tie.Need-returns
 returns c = rw (c .enum-told .given .1)
-
-returns-2 : tie.Need-returns-2
-returns-2 c = search needs
 
 returns-3 : tie.Need-returns-3
 returns-3 c = rw (c .enum-told3 .given .1)
 
 pub adds-next-spec : {M : Type 1} → statement M
-adds-next-spec = tie.close (tie.spec enum-told enum-told-2 enum-told-3 returns returns-2 returns-3)
+adds-next-spec =
+    tie.close
+    (tie.spec (λ c. search needs) (λ c. search needs) (λ c. search needs) returns (λ c. search needs)
+    returns-3)

@@ -5,33 +5,6 @@ use borrow.Author.Needs.{needs}
 use Rattle.total.proofs.counts_of.Statement.{statement}
 use Rattle.total.proofs.counts_of.Tie as tie
 
-mul-of-size : tie.Need-mul-of-size
-mul-of-size c = search needs
-
-of-size-requires : tie.Need-of-size-requires
-of-size-requires c κs = search needs
-
-mul-of-size-2 : tie.Need-mul-of-size-2
-mul-of-size-2 c = search needs
-
-of-size-requires-2 : tie.Need-of-size-requires-2
-of-size-requires-2 c κs = search needs
-
-mul-of-size-3 : tie.Need-mul-of-size-3
-mul-of-size-3 c = search needs
-
-of-size-requires-3 : tie.Need-of-size-requires-3
-of-size-requires-3 c κs = search needs
-
-total-requires : tie.Need-total-requires
-total-requires c κs = search needs
-
-total-requires-2 : tie.Need-total-requires-2
-total-requires-2 c κs = search needs
-
-total-requires-3 : tie.Need-total-requires-3
-total-requires-3 c κs = search needs
-
 returns : tie.Need-returns
 unfolding total
 returns c =
@@ -52,14 +25,6 @@ returns c =
 pub counts-of-spec : {M : Type 1} → statement M
 counts-of-spec =
     tie.close
-    (tie.spec
-    mul-of-size
-    of-size-requires
-    mul-of-size-2
-    of-size-requires-2
-    mul-of-size-3
-    of-size-requires-3
-    total-requires
-    total-requires-2
-    total-requires-3
-    returns)
+    (tie.spec (λ c. search needs) (λ c κs. search needs) (λ c. search needs) (λ c κs. search needs)
+    (λ c. search needs) (λ c κs. search needs) (λ c κs. search needs) (λ c κs. search needs)
+    (λ c κs. search needs) returns)

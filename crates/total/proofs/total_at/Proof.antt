@@ -11,23 +11,8 @@ use Rattle.total.proofs.total_at.Tie as tie
 entry-requires : tie.Need-entry-requires
 entry-requires c κs = λ h. omega (arith, c .before .before .before .pre .0 .before h)
 
-mul-o : tie.Need-mul-o
-mul-o c = search needs
-
-shared-slice-read-o : tie.Need-shared-slice-read-o
-shared-slice-read-o c = search needs
-
 entry-requires-2 : tie.Need-entry-requires-2
 entry-requires-2 c κs = λ h. omega (arith, c .before .before .before .before .before .pre .0 .after h)
-
-adds-previous-requires : tie.Need-adds-previous-requires
-adds-previous-requires c κs = search needs
-
-adds-next-requires : tie.Need-adds-next-requires
-adds-next-requires c κs = search needs
-
-total-requires : tie.Need-total-requires
-total-requires c κs = search needs
 
 returns : tie.Need-returns
 unfolding total
@@ -39,12 +24,5 @@ returns c =
 pub total-at-spec : {M : Type 1} → statement M
 total-at-spec =
     tie.close
-    (tie.spec
-    entry-requires
-    mul-o
-    shared-slice-read-o
-    entry-requires-2
-    adds-previous-requires
-    adds-next-requires
-    total-requires
-    returns)
+    (tie.spec entry-requires (λ c. search needs) (λ c. search needs) entry-requires-2 (λ c κs. search needs)
+    (λ c κs. search needs) (λ c κs. search needs) returns)

@@ -4,12 +4,6 @@ use borrow.Author.Needs.{needs}
 use Rattle.trial.proofs.found.Statement.{statement}
 use Rattle.trial.proofs.found.Tie as tie
 
-is-plain-requires : tie.Need-is-plain-requires
-is-plain-requires c κs = search needs
-
-all-requires : tie.Need-all-requires
-all-requires c κs = search needs
-
 returns : tie.Need-returns
 unfolding found
 returns c =
@@ -23,4 +17,4 @@ returns-2 c =
     rw t
 
 pub found-spec : {M : Type 1} → statement M
-found-spec = tie.close (tie.spec is-plain-requires all-requires returns returns-2)
+found-spec = tie.close (tie.spec (λ c κs. search needs) (λ c κs. search needs) returns returns-2)

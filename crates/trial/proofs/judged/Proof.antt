@@ -5,18 +5,6 @@ use borrow.Author.Needs.{needs}
 use Rattle.trial.proofs.judged.Statement.{statement}
 use Rattle.trial.proofs.judged.Tie as tie
 
-adds-previous-requires : tie.Need-adds-previous-requires
-adds-previous-requires c κs = search needs
-
-adds-next-requires : tie.Need-adds-next-requires
-adds-next-requires c κs = search needs
-
-error-requires : tie.Need-error-requires
-error-requires c κs = search needs
-
-total-requires : tie.Need-total-requires
-total-requires c κs = search needs
-
 returns : tie.Need-returns
 unfolding judgedOf total
 returns c = rw (c .total .ensures, c .before .error .ensures, c .before .before .adds-next .ensures, c .before .before .before .adds-previous .ensures, c .before .before .before .before .pre .here)
@@ -24,4 +12,5 @@ returns c = rw (c .total .ensures, c .before .error .ensures, c .before .before 
 pub judged-spec : {M : Type 1} → statement M
 judged-spec =
     tie.close
-    (tie.spec adds-previous-requires adds-next-requires error-requires total-requires returns)
+    (tie.spec (λ c κs. search needs) (λ c κs. search needs) (λ c κs. search needs) (λ c κs. search needs)
+    returns)

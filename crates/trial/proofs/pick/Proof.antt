@@ -7,23 +7,11 @@ use borrow.Author.Needs.{needs}
 use Rattle.trial.proofs.pick.Statement.{statement}
 use Rattle.trial.proofs.pick.Tie as tie
 
-models-requires : tie.Need-models-requires
-models-requires c κs = search needs
-
-all-plain-requires : tie.Need-all-plain-requires
-all-plain-requires c κs = search needs
-
 returns : tie.Need-returns
 returns c =
     let s = c .before .before .before in
     let m = c .before .before .models in
     sym (none-picked (around (s .args .p) (s .args .o) (s .args .n) (s .args .counts)) (s .args .limit) (s .args .strict) (m .result) (m .ensures) (s .args .evidence) (sym (c .before .all-plain .ensures) ∙ c .if1 .taken))
-
-best-requires : tie.Need-best-requires
-best-requires c κs = search needs
-
-found-requires : tie.Need-found-requires
-found-requires c κs = search needs
 
 returns-2 : tie.Need-returns-2
 unfolding pick ownSame
@@ -35,4 +23,5 @@ returns-2 c =
 pub pick-spec : {M : Type 1} → statement M
 pick-spec =
     tie.close
-    (tie.spec models-requires all-plain-requires returns best-requires found-requires returns-2)
+    (tie.spec (λ c κs. search needs) (λ c κs. search needs) returns (λ c κs. search needs)
+    (λ c κs. search needs) returns-2)

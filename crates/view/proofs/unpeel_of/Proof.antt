@@ -24,13 +24,13 @@ use types.Part.{agg, whole, sub, look-in}
 use types.Run.{look, init, forget, stop, hop, fld, from, load, addr, and-then, no-more, assigns, land, returns, enter, alloc1, alloc0, params1, pass1, pass0, free1, free0}
 use sound.WpLaws.{FmC, fmOf, WpFn-mono}
 use denote.RattleType.{flat}
-use denote.Laws.{Is, Ises, Are, shows}
+use denote.Laws.{Is, Ises, Are, shows, all-typed}
 use denote.Plain.{uint-vals, uint-tells, uint-lawful}
 use denote.Floats.{float-vals, float-tells, float-lawful}
-use denote.Builtin.{u8, i16, f32}
+use denote.Builtin.{u8, i16, f32, usize}
 use denote.Ref.{RefT, NamedLft, name, now}
 use denote.Signature.{plain, namedLft, typesAt}
-use denote.Slice.{finally, slice-vals, mut-slice-tells, shr-slice-tells, mut-slice-lawful, shr-slice-lawful}
+use denote.Slice.{ShrSlice, finally, slice-vals, mut-slice-tells, shr-slice-tells, shr-slice-lawful}
 use denote.Steps.{peeks, heard}
 use denote.Struct.Laws as LL
 use denote.Triple.Statement.{Contract, Triple}
@@ -61,7 +61,7 @@ use Rattle.view.proofs.unpeel_views.Symbol.{name as #view·unpeel-views
 use Rattle.view.proofs.unpeel_views.Met as unpeel-views-thm
 use Rattle.view.proofs.Apart.{parts, Open}
 use Rattle.view.proofs.Made.{Same, token, New, to, Ensured, said, asks, typed}
-use Rattle.view.proofs.Carried.{tokens, carried}
+use Rattle.view.proofs.Carried.{tokens, carried, nine}
 use Rattle.view.proofs.Dropped.{others, droppeds, go-dropped}
 use Rattle.view.proofs.Front.{front, front-out, front-in, trues, nothings}
 use Rattle.view.proofs.unpeel_of.Key.{name as #view·unpeel-of}
@@ -183,27 +183,15 @@ module _ {M : Type 1} (𝓤 : URA M) (H : Heap 𝓤) (A : Atoms 𝓤) (W : Given
   module _ (C : Calls 𝓤 H) (Λ : Loops 𝓤 H) (fm : FmC 𝓤 H (W .laws) C) (known-new : Triple 𝓤 (C #view·new) (New 𝓤 H A mem run)) (known : Triple 𝓤 (C #view·unpeel-views) (UnpeelViews 𝓤 H A mem run)) where
     walk : Are (typesAt (this.signature .params) κs) (Ises (typesAt (this.signature .params) κs)) p vals → ent 𝓤 (onEntry 𝓤 H A this.signature κs qs p vals) (WpFn 𝓤 H C Λ code.function (flat (typesAt (this.signature .params) κs) vals) Post)
     walk are =
-        let output′ = mut-slice-lawful 𝓤 H A W (named 0) κ₀ u8 .typed output _ (are .0) .0 in
-        let opitch′ = uint-lawful 𝓤 H A W w64 .typed opitch _ (are .1 .0) .0 in
-        let s′ = LL.lawful S.the-type S′.the-laws 𝓤 H A W .typed s _ (are .1 .1 .0) .0 in
-        let l′ = shr-slice-lawful 𝓤 H A W (named 1) κ₁ i16 .typed l _ (are .1 .1 .1 .0) .0 in
-        let lb′ = shr-slice-lawful 𝓤 H A W (named 2) κ₂ u8 .typed lb _ (are .1 .1 .1 .1 .0) .0 in
-        let a′ = shr-slice-lawful 𝓤 H A W (named 3) κ₃ i16 .typed a _ (are .1 .1 .1 .1 .1 .0) .0 in
-        let ab′ = shr-slice-lawful 𝓤 H A W (named 4) κ₄ u8 .typed ab _ (are .1 .1 .1 .1 .1 .1 .0) .0 in
-        let b′ = shr-slice-lawful 𝓤 H A W (named 5) κ₅ i16 .typed b _ (are .1 .1 .1 .1 .1 .1 .1 .0) .0 in
-        let bb′ = shr-slice-lawful 𝓤 H A W (named 6) κ₆ u8 .typed bb _ (are .1 .1 .1 .1 .1 .1 .1 .1 .0) .0 in
-        let x′ = shr-slice-lawful 𝓤 H A W (named 7) κ₇ u8 .typed x _ (are .1 .1 .1 .1 .1 .1 .1 .1 .1 .0) .0 in
-        let xpitch′ = uint-lawful 𝓤 H A W w64 .typed xpitch _ (are .1 .1 .1 .1 .1 .1 .1 .1 .1 .1 .0) .0 in
-        let y′ = shr-slice-lawful 𝓤 H A W (named 8) κ₈ u8 .typed y _ (are .1 .1 .1 .1 .1 .1 .1 .1 .1 .1 .1 .0) .0 in
-        let ypitch′ = uint-lawful 𝓤 H A W w64 .typed ypitch _ (are .1 .1 .1 .1 .1 .1 .1 .1 .1 .1 .1 .1 .0) .0 in
-        let time′ = float-lawful 𝓤 H A W binary32 .typed time _ (are .1 .1 .1 .1 .1 .1 .1 .1 .1 .1 .1 .1 .1 .0) .0 in
+        let types = all-typed 𝓤 H A (typesAt (this.signature .params) κs) (nine κ₀ κ₁ κ₂ κ₃ κ₄ κ₅ κ₆ 𝓤 H A W (ShrSlice (named 7) κ₇ u8 ∷ usize ∷ ShrSlice (named 8) κ₈ u8 ∷ usize ∷ f32 ∷ [])
+        (shr-slice-lawful 𝓤 H A W (named 7) κ₇ u8, (uint-lawful 𝓤 H A W w64, (shr-slice-lawful 𝓤 H A W (named 8) κ₈ u8, (uint-lawful 𝓤 H A W w64, (float-lawful 𝓤 H A W binary32, tt)))))) p vals are in
         qed W (‵ (front toks (front tok-d tok-e)) ∷ ‵ Held ∷ []) ∵ enter ! C Λ code.function (flat (typesAt (this.signature .params) κs) vals) _ $
         alloc1 ! (λ l₀. alloc1 ! (λ l₁. alloc1 ! (λ l₂. alloc1 ! (λ l₃. alloc1 ! (λ l₄. alloc1 ! (λ l₅. alloc1 ! (λ l₆. alloc1 ! (λ l₇. alloc1 ! (λ l₈. alloc1 ! (λ l₉. alloc1 ! (λ l₁₀. alloc1 ! (λ l₁₁. alloc1 ! (λ l₁₂. alloc1 ! (λ l₁₃. alloc1 ! (λ l₁₄. alloc1 ! (λ l₁₅. alloc1 ! (λ l₁₆. alloc1 ! (λ l₁₇. alloc1 ! (λ l₁₈. alloc0 ! $ params1 ! $
-        pass1 ! (init ! 34 refl output′) $ pass1 ! (init ! 32 refl opitch′) $ pass1 ! (init ! 30 refl s′) $ pass1 ! (init ! 28 refl l′) $ pass1 ! (init ! 26 refl lb′) $ pass1 ! (init ! 24 refl a′) $ pass1 ! (init ! 22 refl ab′) $ pass1 ! (init ! 20 refl b′) $ pass1 ! (init ! 18 refl bb′) $ pass1 ! (init ! 16 refl x′) $ pass1 ! (init ! 14 refl xpitch′) $ pass1 ! (init ! 12 refl y′) $ pass1 ! (init ! 10 refl ypitch′) $ pass1 ! (init ! 8 refl time′) $ pass0 ! $
+        pass1 ! (init ! 34 refl (types .0)) $ pass1 ! (init ! 32 refl (types .1 .0)) $ pass1 ! (init ! 30 refl (types .1 .1 .0)) $ pass1 ! (init ! 28 refl (types .1 .1 .1 .0)) $ pass1 ! (init ! 26 refl (types .1 .1 .1 .1 .0)) $ pass1 ! (init ! 24 refl (types .1 .1 .1 .1 .1 .0)) $ pass1 ! (init ! 22 refl (types .1 .1 .1 .1 .1 .1 .0)) $ pass1 ! (init ! 20 refl (types .1 .1 .1 .1 .1 .1 .1 .0)) $ pass1 ! (init ! 18 refl (types .1 .1 .1 .1 .1 .1 .1 .1 .0)) $ pass1 ! (init ! 16 refl (types .1 .1 .1 .1 .1 .1 .1 .1 .1 .0)) $ pass1 ! (init ! 14 refl (types .1 .1 .1 .1 .1 .1 .1 .1 .1 .1 .0)) $ pass1 ! (init ! 12 refl (types .1 .1 .1 .1 .1 .1 .1 .1 .1 .1 .1 .0)) $ pass1 ! (init ! 10 refl (types .1 .1 .1 .1 .1 .1 .1 .1 .1 .1 .1 .1 .0)) $ pass1 ! (init ! 8 refl (types .1 .1 .1 .1 .1 .1 .1 .1 .1 .1 .1 .1 .1 .0)) $ pass0 ! $
         -- [_18; …; _17; …; …; _1; …; room for _0; …; what there is on entry]
         -- the output is lent on
         assigns ! (addr ! (from ! (fld ! refl (hop ! (look-in ! 34 (sub ! 0 refl (whole !))) (stop !))))) (from ! (stop !)) (init ! 6 refl (tt, tt)) $
-        assigns ! (agg ! (and-then ! (load ! (from ! (stop !)) (look ! 6 refl)) (and-then ! (load ! (from ! (fld ! refl (stop !))) (look-in ! 34 (sub ! 1 refl (whole !)))) (no-more !)))) (from ! (stop !)) (init ! 4 refl (tt, output′ .1)) $
+        assigns ! (agg ! (and-then ! (load ! (from ! (stop !)) (look ! 6 refl)) (and-then ! (load ! (from ! (fld ! refl (stop !))) (look-in ! 34 (sub ! 1 refl (whole !)))) (no-more !)))) (from ! (stop !)) (init ! 4 refl (tt, types .0 .1)) $
         -- `new`
         move ! (38 ∷ 39 ∷ []) $ use2 W (raw (New 𝓤 H A mem run .pre (to 𝓤 H A mem run κ₇ (qs .1 .1 .1 .1 .1 .1 .1 .0) d)) ⊛ raw (New 𝓤 H A mem run .pre (to 𝓤 H A mem run κ₈ (qs .1 .1 .1 .1 .1 .1 .1 .1 .0) e)) ⊛ ‵ Kept) goes $ split3 ! $
         calls-at ! fm (New 𝓤 H A mem run) known-new (to 𝓤 H A mem run κ₇ (qs .1 .1 .1 .1 .1 .1 .1 .0) d) (and-then ! (load ! (from ! (stop !)) (look ! 19 refl)) (and-then ! (load ! (from ! (stop !)) (look ! 17 refl)) (no-more !))) (λ u.

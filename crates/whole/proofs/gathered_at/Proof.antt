@@ -12,12 +12,6 @@ use Rattle.whole.proofs.Gathers.{taken, passed}
 use borrow.Author.Needs.{needs}
 use Rattle.whole.proofs.gathered_at.Statement.{statement}
 use Rattle.whole.proofs.gathered_at.Tie as tie
-use Rattle.whole.proofs.gathered_at.Reads as reads
-use Rattle.whole.proofs.gathered_at.Lts as lts
-use Rattle.lift.proofs.added.Reads as added-reads
-use Rattle.stored.proofs.gains.Reads as gains-reads
-use Rattle.texel.proofs.strong.Reads as strong-reads
-use Rattle.whole.proofs.lifted_at.Reads as lifted-at-reads
 
 -- the test is the one of the texel's gain
 tested : (c : tie.After-strong) (b : Bool) → c .strong .result ≡ b
@@ -27,23 +21,6 @@ tested c b t =
     let g = c .before .gains in
     rw (g .ensures .is _ _) (rw (← back w32 (g .result) (g .ok)) (sym (c .strong .ensures) ∙ t))
 
--- src/lib.rt:76:9
-gains-requires : tie.Need-gains-requires
-gains-requires c κs = search needs
-
--- src/lib.rt:77:8
-strong-requires : tie.Need-strong-requires
-strong-requires c κs = search needs
-
--- src/lib.rt:80:13
-lifted-at-requires : tie.Need-lifted-at-requires
-lifted-at-requires c κs = search needs
-
--- src/lib.rt:78:9
-added-requires : tie.Need-added-requires
-added-requires c κs = search needs
-
--- src/lib.rt:59:1
 returns : tie.Need-returns
 unfolding seen
 returns c =
@@ -51,7 +28,6 @@ returns c =
     let t = tested s true (c .before .before .if1 .taken) in
     rw (c .added .ensures, c .before .lifted-at .ensures) (taken _ _ _ t)
 
--- src/lib.rt:59:1
 returns-2 : tie.Need-returns-2
 unfolding seen
 returns-2 c = passed _ _ _ (tested (c .before) false (c .if1 .left))
@@ -59,4 +35,5 @@ returns-2 c = passed _ _ _ (tested (c .before) false (c .if1 .left))
 pub gathered-at-spec : {M : Type 1} → statement M
 gathered-at-spec =
     tie.close
-    (tie.spec gains-requires strong-requires lifted-at-requires added-requires returns returns-2)
+    (tie.spec (λ c κs. search needs) (λ c κs. search needs) (λ c κs. search needs) (λ c κs. search needs)
+    returns returns-2)

@@ -1,20 +1,15 @@
 -- `whole::ring` meets its contract. Assumes nothing.
 use borrow.Author.Needs.{needs}
-use mathlib.Core.Path.{_≡_, refl, _∙_}
+use mathlib.Core.Path.{_≡_, refl}
 use Prim.Native.Nat.{_-_, _≤_}
 use native.Mathlib.Nat.{le-antisymm}
 use native.Mathlib.Numerals.{add-one}
 use native.Mathlib.Omega.{arith}
-use lib.Ieee.{ofBits}
 use Rattle.rules.specs.Forms.{turns}
 use Rattle.lent.specs.Lent.{lay}
 use Rattle.whole.specs.Rings.{wholeRing}
 use Rattle.whole.proofs.ring.Statement.{statement}
 use Rattle.whole.proofs.ring.Tie as tie
-use Rattle.whole.proofs.ring.Reads as reads
-use Rattle.whole.proofs.ring.Lts as lts
-use Rattle.whole.proofs.held.Reads as held-reads
-use Rattle.whole.proofs.ring_row.Reads as ring-row-reads
 
 abbrev Inv-loop : tie.InvT-loop
 Inv-loop p l lb a ab b bb raw pitch x y radius r₀ down₀ r down =
@@ -23,33 +18,14 @@ Inv-loop p l lb a ab b bb raw pitch x y radius r₀ down₀ r down =
 abbrev μ-loop : tie.MeasureT-loop
 μ-loop p l lb a ab b bb raw pitch x y radius r₀ down₀ r down = 3 - down
 
--- src/lib.rt:179:5
 loop-holds : tie.Need-loop-holds Inv-loop μ-loop
 unfolding turns wholeRing
 loop-holds c = (refl, omega arith)
 
--- src/lib.rt:180:13
-held-requires : tie.Need-held-requires Inv-loop μ-loop
-held-requires c κs = search needs
-
--- src/lib.rt:181:9
-ring-row-requires : tie.Need-ring-row-requires Inv-loop μ-loop
-ring-row-requires c κs = search needs
-
--- src/lib.rt:182:9
-add-down : tie.Need-add-down Inv-loop μ-loop
-add-down c = search needs
-
--- src/lib.rt:179:5
-loop-less : tie.Need-loop-less Inv-loop μ-loop
-loop-less c = search needs
-
--- src/lib.rt:179:5
 loop-again : tie.Need-loop-again Inv-loop μ-loop
 unfolding turns wholeRing
 loop-again c = (rw (c .ring-row .ensures, c .before .held .ensures .0, c .before .before .before .loop .inv .0, add-one), omega arith)
 
--- src/lib.rt:157:1
 returns : tie.Need-returns Inv-loop μ-loop
 returns c =
     let at-loop = c .before .loop in
@@ -58,13 +34,5 @@ returns c =
 pub ring-spec : {M : Type 1} → statement M
 ring-spec =
     tie.close
-    (tie.spec
-    Inv-loop
-    μ-loop
-    loop-holds
-    held-requires
-    ring-row-requires
-    add-down
-    loop-less
-    loop-again
-    returns)
+    (tie.spec Inv-loop μ-loop loop-holds (λ c κs. search needs) (λ c κs. search needs) (λ c. search needs)
+    (λ c. search needs) loop-again returns)

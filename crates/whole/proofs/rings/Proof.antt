@@ -1,6 +1,7 @@
 -- `whole::rings` meets its contract. Assumes nothing.
 use borrow.Author.Needs.{needs}
 use mathlib.Core.Path.{_≡_, sym, _∙_}
+use mathlib.Core.Bool.{true, false}
 use Prim.Native.Nat.{_-_, _≤_}
 use native.Mathlib.Nat.{mul-le-mul}
 use native.Mathlib.Omega.{arith}
@@ -9,12 +10,9 @@ use Rattle.rules.specs.Float.{float}
 use Rattle.rules.specs.Scene.{filled}
 use Rattle.lent.specs.Lent.{lay}
 use Rattle.whole.specs.Rings.{means}
-use Rattle.whole.proofs.Around.{planned-filled, means-found, means-passed}
+use Rattle.whole.proofs.Around.{planned-filled, means-by}
 use Rattle.whole.proofs.rings.Statement.{statement}
 use Rattle.whole.proofs.rings.Tie as tie
-use Rattle.whole.proofs.rings.Reads as reads
-use Rattle.whole.proofs.rings.Lts as lts
-use Rattle.whole.proofs.ring.Reads as ring-reads
 
 abbrev Inv-loop : tie.InvT-loop
 Inv-loop p l lb a ab b bb raw pitch x y v radius times₀ times =
@@ -27,48 +25,34 @@ Inv-loop p l lb a ab b bb raw pitch x y v radius times₀ times =
 abbrev μ-loop : tie.MeasureT-loop
 μ-loop p l lb a ab b bb raw pitch x y v radius times₀ times = 4 - times
 
--- src/lib.rt:207:5
 loop-holds : tie.Need-loop-holds Inv-loop μ-loop
 loop-holds c =
     let s = c .before .before .before .before .before in
     (planned-filled (s .args .p) _ _ _ _ _ _ (s .pre .0 .sound .planned) (s .pre .1) (λ k. omega (arith, c .before .shared-slice-known4 .given k)) _, omega arith, omega arith, omega (arith, s .pre .0 .sound .planned .small))
 
--- src/lib.rt:208:64
 mul-ring : tie.Need-mul-ring Inv-loop μ-loop
 mul-ring c =
     let inv = c .before .loop .inv in
     omega (arith, mul-le-mul (inv .3) (c .loop-test .taken))
 
--- src/lib.rt:208:13
 ring-requires : tie.Need-ring-requires Inv-loop μ-loop
 ring-requires c κs =
     let s = c .before .before .before .before .before .before .before in
     let inv = c .before .loop .inv in
     (s .pre .0, s .pre .1, mul-le-mul (inv .3) (c .loop-test .taken))
 
--- src/lib.rt:210:13
 returns : tie.Need-returns Inv-loop μ-loop
 returns c =
     let r = c .before .before .before in
     let at-loop = r .before .before .loop in
-    sym (at-loop .inv .0 ∙ means-found _ _ _ _ _ _ _ _ _ _ (at-loop .inv .1) (r .before .loop-test .taken) (r .ring .ensures) (c .before .if1 .taken))
+    sym (at-loop .inv .0 ∙ means-by _ _ _ _ _ _ _ _ _ _ true (at-loop .inv .1) (r .before .loop-test .taken) (r .ring .ensures) (c .before .if1 .taken))
 
--- src/lib.rt:212:9
-add-times : tie.Need-add-times Inv-loop μ-loop
-add-times c = search needs
-
--- src/lib.rt:207:5
-loop-less : tie.Need-loop-less Inv-loop μ-loop
-loop-less c = search needs
-
--- src/lib.rt:207:5
 loop-again : tie.Need-loop-again Inv-loop μ-loop
 loop-again c =
     let r = c .before .before in
     let at-loop = r .before .before .loop in
-    (at-loop .inv .0 ∙ means-passed _ _ _ _ _ _ _ _ _ _ (at-loop .inv .1) (r .before .loop-test .taken) (r .ring .ensures) (c .if1 .left), omega arith, omega arith, at-loop .inv .3)
+    (at-loop .inv .0 ∙ means-by _ _ _ _ _ _ _ _ _ _ false (at-loop .inv .1) (r .before .loop-test .taken) (r .ring .ensures) (c .if1 .left), omega arith, omega arith, at-loop .inv .3)
 
--- src/lib.rt:188:1
 returns-2 : tie.Need-returns-2 Inv-loop μ-loop
 unfolding means
 returns-2 c =
@@ -79,14 +63,5 @@ returns-2 c =
 pub rings-spec : {M : Type 1} → statement M
 rings-spec =
     tie.close
-    (tie.spec
-    Inv-loop
-    μ-loop
-    loop-holds
-    mul-ring
-    ring-requires
-    returns
-    add-times
-    loop-less
-    loop-again
-    returns-2)
+    (tie.spec Inv-loop μ-loop loop-holds mul-ring ring-requires returns (λ c. search needs)
+    (λ c. search needs) loop-again returns-2)

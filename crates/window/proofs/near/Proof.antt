@@ -3,12 +3,6 @@ use borrow.Author.Needs.{needs}
 use Rattle.window.proofs.near.Statement.{statement}
 use Rattle.window.proofs.near.Tie as tie
 
-strictly-set-requires : tie.Need-strictly-set-requires
-strictly-set-requires c κs = search needs
-
-strictly-set-requires-2 : tie.Need-strictly-set-requires-2
-strictly-set-requires-2 c κs = search needs
-
 returns : tie.Need-returns
 returns c =
     let t = rw (c .before .strictly-set .ensures) at (c .if1 .taken) in
@@ -20,4 +14,4 @@ returns-2 c =
     rw (c .strictly-set2 .ensures, t)
 
 pub near-spec : {M : Type 1} → statement M
-near-spec = tie.close (tie.spec strictly-set-requires strictly-set-requires-2 returns returns-2)
+near-spec = tie.close (tie.spec (λ c κs. search needs) (λ c κs. search needs) returns returns-2)

@@ -4,15 +4,9 @@ use borrow.Author.Needs.{needs}
 use Rattle.window.proofs.offsets_of.Statement.{statement}
 use Rattle.window.proofs.offsets_of.Tie as tie
 
-chroma-offset-requires : tie.Need-chroma-offset-requires
-chroma-offset-requires c κs = search needs
-
-chroma-offset-requires-2 : tie.Need-chroma-offset-requires-2
-chroma-offset-requires-2 c κs = search needs
-
 returns : tie.Need-returns
 unfolding chromaOffset total
 returns c = rw (c .chroma-offset2 .ensures, c .before .chroma-offset .ensures)
 
 pub offsets-of-spec : {M : Type 1} → statement M
-offsets-of-spec = tie.close (tie.spec chroma-offset-requires chroma-offset-requires-2 returns)
+offsets-of-spec = tie.close (tie.spec (λ c κs. search needs) (λ c κs. search needs) returns)

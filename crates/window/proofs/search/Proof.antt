@@ -6,21 +6,6 @@ use borrow.Author.Needs.{needs}
 use Rattle.window.proofs.search.Statement.{statement}
 use Rattle.window.proofs.search.Tie as tie
 
-pick-requires : tie.Need-pick-requires
-pick-requires c κs = search needs
-
-enum-known-m : tie.Need-enum-known-m
-enum-known-m c = search needs
-
-enum-told : tie.Need-enum-told
-enum-told c = search needs
-
-second-requires : tie.Need-second-requires
-second-requires c κs = search needs
-
-pick-requires-2 : tie.Need-pick-requires-2
-pick-requires-2 c κs = search needs
-
 returns : tie.Need-returns
 unfolding window secondOf
 returns c =
@@ -40,12 +25,5 @@ returns-3 c = rw (c .pick2 .ensures, c .before .if1 .left)
 pub search-spec : {M : Type 1} → statement M
 search-spec =
     tie.close
-    (tie.spec
-    pick-requires
-    enum-known-m
-    enum-told
-    second-requires
-    pick-requires-2
-    returns
-    returns-2
-    returns-3)
+    (tie.spec (λ c κs. search needs) (λ c. search needs) (λ c. search needs) (λ c κs. search needs)
+    (λ c κs. search needs) returns returns-2 returns-3)

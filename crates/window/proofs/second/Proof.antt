@@ -4,12 +4,6 @@ use borrow.Author.Needs.{needs}
 use Rattle.window.proofs.second.Statement.{statement}
 use Rattle.window.proofs.second.Tie as tie
 
-near-requires : tie.Need-near-requires
-near-requires c κs = search needs
-
-pick-requires : tie.Need-pick-requires
-pick-requires c κs = search needs
-
 returns : tie.Need-returns
 unfolding secondOf
 returns c =
@@ -23,4 +17,4 @@ returns-2 c =
     rw t
 
 pub second-spec : {M : Type 1} → statement M
-second-spec = tie.close (tie.spec near-requires pick-requires returns returns-2)
+second-spec = tie.close (tie.spec (λ c κs. search needs) (λ c κs. search needs) returns returns-2)

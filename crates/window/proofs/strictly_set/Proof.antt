@@ -4,12 +4,6 @@ use borrow.Author.Needs.{needs}
 use Rattle.window.proofs.strictly_set.Statement.{statement}
 use Rattle.window.proofs.strictly_set.Tie as tie
 
-model-requires : tie.Need-model-requires
-model-requires c κs = search needs
-
-set-requires : tie.Need-set-requires
-set-requires c κs = search needs
-
 returns : tie.Need-returns
 returns c = rw (ne-eqb _ _ (c .before .before .if1 .taken), c .set .ensures, c .before .model .ensures, c .before .before .before .pre)
 
@@ -17,4 +11,4 @@ returns-2 : tie.Need-returns-2
 returns-2 c = rw (c .if1 .left)
 
 pub strictly-set-spec : {M : Type 1} → statement M
-strictly-set-spec = tie.close (tie.spec model-requires set-requires returns returns-2)
+strictly-set-spec = tie.close (tie.spec (λ c κs. search needs) (λ c κs. search needs) returns returns-2)

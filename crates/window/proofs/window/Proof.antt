@@ -11,14 +11,8 @@ use Rattle.window.proofs.Unseen.{unseen}
 use Rattle.window.proofs.window.Statement.{statement}
 use Rattle.window.proofs.window.Tie as tie
 
-shown-requires : tie.Need-shown-requires
-shown-requires c κs = search needs
-
 sums-requires : tie.Need-sums-requires
 sums-requires c κs = λ h. omega (arith, c .before .before .before .before .before .before .before .before .before .before .before .pre .0 .luma .before h)
-
-sums-at-requires : tie.Need-sums-at-requires
-sums-at-requires c κs = search needs
 
 sums-requires-2 : tie.Need-sums-requires-2
 sums-requires-2 c κs = λ h. omega (arith, c .before .before .before .before .before .before .before .before .before .before .before .before .before .pre .0 .luma .after h)
@@ -47,11 +41,5 @@ returns-2 c =
 pub window-spec : {M : Type 1} → statement M
 window-spec =
     tie.close
-    (tie.spec
-    shown-requires
-    sums-requires
-    sums-at-requires
-    sums-requires-2
-    search-requires
-    returns
-    returns-2)
+    (tie.spec (λ c κs. search needs) sums-requires (λ c κs. search needs) sums-requires-2 search-requires
+    returns returns-2)

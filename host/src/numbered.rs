@@ -1,0 +1,31 @@
+//! Enums whose variants are numbers of the C interface.
+
+/// Declares one, with the list of all its variants and its number as `$kind`.
+macro_rules! numbered {
+    ($(#[$about:meta])* pub enum $name:ident: $kind:ty {
+        $($(#[$of:meta])* $variant:ident = $number:literal,)*
+    }) => {
+        $(#[$about])*
+        #[derive(Clone, Copy, Debug, PartialEq, Eq, Hash)]
+        pub enum $name {
+            $($(#[$of])* $variant = $number,)*
+        }
+
+        impl $name {
+            /// All of them, in the order of their numbers.
+            pub const ALL: [Self; [$($number),*].len()] = [$(Self::$variant),*];
+
+            /// Its number.
+            #[must_use]
+            pub const fn number(self) -> $kind {
+                self as $kind
+            }
+
+            /// The one of that number.
+            #[must_use]
+            pub fn of_number(number: $kind) -> Option<Self> {
+                Self::ALL.into_iter().find(|one| one.number() == number)
+            }
+        }
+    };
+}
