@@ -116,9 +116,6 @@ uint64_t safeteal_hold(
 /* The final rounding of a pixel. */
 uint64_t safeteal_pixel(float value);
 
-/* A float cut to a whole number. */
-uint64_t safeteal_cut(float value);
-
 /* The number stored for value times scale. */
 int16_t safeteal_stored(float value, float scale);
 

@@ -154,9 +154,6 @@ proved! {
     /// The final rounding of a pixel.
     fn pixel(value: f32) -> u64;
 
-    /// The float cut to a whole number, as Rust's `as usize`.
-    fn cut(value: f32) -> u64;
-
     /// The number stored for `value * scale`.
     fn stored(value: f32, scale: f32) -> i16;
 }

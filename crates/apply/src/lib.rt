@@ -27,7 +27,7 @@ fn chosen(yes: bool, new: u8, old: u8) -> u8
 
 // What pixel (x, y) becomes. One that stays is passed over before it is mixed, or, where `skip` is
 // false, after: a row is then a loop without a branch.
-fn apply_dot(
+fn apply_pixel(
     old: u8,
     first: &[u8],
     second: &[u8],
@@ -77,7 +77,7 @@ fn apply_row(
     let mut x = 0;
     while x < width {
         let k = plane::place(y, output_pitch, x);
-        output[k] = apply_dot(
+        output[k] = apply_pixel(
             output[k],
             first,
             second,

@@ -7,7 +7,7 @@ fn number(luma: &[i16], at: usize) -> i16 {
 }
 
 // Whether a pixel is stored with other than gain 4096, offset 0.
-fn is_dot(luma: &[i16], pixel: usize) -> bool {
+fn is_lettered(luma: &[i16], pixel: usize) -> bool {
     if pixel >= PIXELS {
         return false;
     }
@@ -30,14 +30,14 @@ fn is_same(first: &[i16], second: &[i16], pixel: usize) -> bool {
 
 // # stayed, + is new, x was lost or changed, a full stop is no dot in either.
 fn fate(first: &[i16], second: &[i16], pixel: usize) -> u8 {
-    if is_dot(first, pixel) {
+    if is_lettered(first, pixel) {
         return if is_same(first, second, pixel) {
             35
         } else {
             120
         };
     }
-    if is_dot(second, pixel) { 43 } else { 46 }
+    if is_lettered(second, pixel) { 43 } else { 46 }
 }
 
 pub fn of(fates: &mut [u8], first: &[i16], second: &[i16]) {

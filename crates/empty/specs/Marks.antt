@@ -1,33 +1,39 @@
--- The cells of a layer in its slice of numbers, as far as they are gone through; and what going through them asks.
+-- The cells of a layer, as far as they are gone through; and what going through them asks.
 use mathlib.Core.Bool.{Bool, not}
-use mathlib.Core.List.{List}
-use Prim.Native.Nat.{ℕ, _+_, _*_, _≤_}
-use lib.IntN.{ℤ, pos}
-use lib.ListN.{length, getD}
-use Rattle.rules.specs.Forms.{all, isNumber}
+use mathlib.Core.List.{List, []}
+use Prim.Native.Nat.{ℕ, _≤_, _<_}
+use lib.IntN.{ℤ}
+use Rattle.rules.specs.Forms.{Layer, all, isNumber}
+use Rattle.rules.specs.Reading.{cell}
+use Rattle.lent.specs.declared.Plan.{Plan}
+use Rattle.lent.specs.Lent.{lent, holding, chromaLong, Planned}
 
--- the number in this row and column is not 0
-abbrev pub unmarked : List ℤ → (row pitch x : ℕ) → Bool
-unmarked b row pitch x = not (isNumber (getD b (row * pitch + x) (pos 0)) 0)
+-- a layer, of which the cells are read alone
+abbrev pub celled : Plan → List ℤ → List ℕ → Layer
+celled p b bb = holding (p .shape) [] [] (lent (p .shape .packed) b bb)
 
--- none of a row is
-abbrev pub rowUnmarked : List ℤ → (row pitch width : ℕ) → Bool
-rowUnmarked b row pitch width = all width (unmarked b row pitch)
+-- the number of this cell is not 0
+abbrev pub unmarked : Layer → (x y : ℕ) → Bool
+unmarked l x y = not (isNumber (cell l x y) 0)
 
--- none of so many rows is, from a first on
-abbrev pub rowsUnmarked : List ℤ → (first pitch width height : ℕ) → Bool
-rowsUnmarked b first pitch width height = all height (λ y. rowUnmarked b (first + y) pitch width)
+-- none of the first of a row is
+abbrev pub rowUnmarked : Layer → (y width : ℕ) → Bool
+rowUnmarked l y width = all width (λ x. unmarked l x y)
 
--- a row in the slice
-pub record InRow (b : List ℤ) (row pitch width : ℕ) : Type 0 where
-  pub low : row ≤ 65536
-  pub narrow : pitch ≤ 65536
-  pub wide : width ≤ pitch
-  pub long : row * pitch + width ≤ length b
+-- none of the first rows has one
+abbrev pub rowsUnmarked : Layer → (width height : ℕ) → Bool
+rowsUnmarked l width height = all height (λ y. rowUnmarked l y width)
 
--- rows in the slice
-pub record InRows (b : List ℤ) (first pitch width height : ℕ) : Type 0 where
-  pub low : first + height ≤ 65536
-  pub narrow : pitch ≤ 65536
-  pub wide : width ≤ pitch
-  pub long : (first + height) * pitch ≤ length b
+-- so many cells of a row, in a layer that is not refused
+pub record InRow (p : Plan) (b : List ℤ) (bb : List ℕ) (y width : ℕ) : Type 0 where
+  pub planned : Planned p
+  pub long : chromaLong p (lent (p .shape .packed) b bb)
+  pub wide : width ≤ p .shape .chroma
+  pub above : y < p .rows
+
+-- so many rows of them
+pub record InRows (p : Plan) (b : List ℤ) (bb : List ℕ) (width height : ℕ) : Type 0 where
+  pub planned : Planned p
+  pub long : chromaLong p (lent (p .shape .packed) b bb)
+  pub wide : width ≤ p .shape .chroma
+  pub tall : height ≤ p .rows

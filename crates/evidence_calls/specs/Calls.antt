@@ -1,5 +1,6 @@
 -- Demand 3 of the running code: the theorem of the definitions, said of the numbers that the exported calls answer and of the slices that they leave.
--- Each hypothesis is the contract of an exported call, word for word, or a test that its caller makes.
+-- Each hypothesis is what the contract of an exported call says of its answer and of the slices that it fills, or a test that its caller makes.
+-- A function of src/ for each such call has the hypothesis for its contract.
 use mathlib.Core.Path.{_≡_}
 use mathlib.Core.Bool.{true}
 use mathlib.Core.List.{List}
@@ -16,12 +17,12 @@ use Rattle.evidence.specs.Evidence.{FitTwice, Later, peelLuma, unpeelLuma, rend
 
 -- ---- what the contracts say
 
--- of safeteal_fit: `left` are the three slices that it filled, `r` is its answer; the work slices are free
+-- of safeteal_fit: `left` are the three slices that it filled, `r` is its answer. What its contract says of the work slices of a refused call is left out: nothing here needs it
 abbrev pub FitTold : FitCall → (left : Fit) → (r : ℕ) → Type 0
 FitTold c left r = ToldThree (uncounted (fitRefusal c)) (fitLeaves c .luma) (fitLeaves c .chroma) (left .luma) (left .chroma .0) (left .chroma .1) r
 
--- of the later call, safeteal_peel_numbers, safeteal_unpeel_numbers or safeteal_render, on a layer: `left` are the bytes of its output afterwards.
--- safeteal_peel and safeteal_unpeel say the same of the numbers that their bytes stand for
+-- of the later call, safeteal_peel or safeteal_peel_numbers, safeteal_unpeel or safeteal_unpeel_numbers, or safeteal_render, on a layer: `left` are the bytes of its
+-- output afterwards. Of safeteal_peel and safeteal_unpeel the layer is that of the numbers which their bytes stand for (`numbers` of Host.antt)
 abbrev pub LaterTold : Later → Layer → (left : List ℕ) → (r : ℕ) → Type 0
 LaterTold (peelLuma output raw) l left r =
     (let c : PeelCall = record { layer = l; plane = 0; output = output; raw = raw } in Told (peelAnswer c) (peelLeaves c) left r)

@@ -1,6 +1,7 @@
 // Demand 3 of the exported calls: its statement stands in specs/, its proof in proofs/.
 // The functions hold the statement's hypotheses to the exported calls: each is such a call, and its contract is in the statement's words.
 ghost use Rattle.rules.specs.Calls.{FitCall};
+ghost use Rattle.rules.specs.Host.{numbers};
 ghost use Rattle.host.specs.Lent.{layer as layerOf, plane as planeOf, frames as framesOf, motion as motionOf, part as partOf, parts as partsOf, stored as fitOf};
 ghost use Rattle.evidence.specs.Evidence.{peelLuma, unpeelLuma, renderPlane};
 ghost use Rattle.evidence_calls.specs.Calls.{FitTold, LaterTold};
@@ -96,6 +97,40 @@ pub fn peel(
     )
 }
 
+// Peel of luma on a layer lent as bytes, as the pre-press host calls it: the same of the numbers that the bytes stand for.
+pub fn peel_bytes(
+    luma: &[u8],
+    chroma1: &[u8],
+    chroma2: &[u8],
+    luma_pitch: usize,
+    chroma_pitch: usize,
+    width: usize,
+    height: usize,
+    ratio: usize,
+    output: &mut [u8],
+    output_pitch: usize,
+    raw: &[u8],
+    raw_pitch: usize,
+) -> u64
+    ensures { λ r. ⌜ LaterTold (peelLuma (planeOf (now (output .entry)) «output_pitch») (planeOf (now (raw .entry)) «raw_pitch»)) (layerOf (numbers (now (luma .entry))) (numbers (now (chroma1 .entry))) (numbers (now (chroma2 .entry))) «luma_pitch» «chroma_pitch» width height ratio) (now (output .exit)) r ⌝ }
+{
+    host::safeteal_peel(
+        luma,
+        chroma1,
+        chroma2,
+        luma_pitch,
+        chroma_pitch,
+        width,
+        height,
+        ratio,
+        0,
+        output,
+        output_pitch,
+        raw,
+        raw_pitch,
+    )
+}
+
 // Unpeel of luma.
 pub fn unpeel(
     luma: &[i16],
@@ -117,6 +152,46 @@ pub fn unpeel(
     ensures { λ r. ⌜ LaterTold (unpeelLuma (planeOf (now (output .entry)) «output_pitch») (framesOf (planeOf (now (first .entry)) «first_pitch») (planeOf (now (second .entry)) «second_pitch») time)) (layerOf (now (luma .entry)) (now (chroma1 .entry)) (now (chroma2 .entry)) «luma_pitch» «chroma_pitch» width height ratio) (now (output .exit)) r ⌝ }
 {
     host::safeteal_unpeel_numbers(
+        luma,
+        chroma1,
+        chroma2,
+        luma_pitch,
+        chroma_pitch,
+        width,
+        height,
+        ratio,
+        0,
+        output,
+        output_pitch,
+        first,
+        first_pitch,
+        second,
+        second_pitch,
+        time,
+    )
+}
+
+// Unpeel of luma on a layer lent as bytes.
+pub fn unpeel_bytes(
+    luma: &[u8],
+    chroma1: &[u8],
+    chroma2: &[u8],
+    luma_pitch: usize,
+    chroma_pitch: usize,
+    width: usize,
+    height: usize,
+    ratio: usize,
+    output: &mut [u8],
+    output_pitch: usize,
+    first: &[u8],
+    first_pitch: usize,
+    second: &[u8],
+    second_pitch: usize,
+    time: f32,
+) -> u64
+    ensures { λ r. ⌜ LaterTold (unpeelLuma (planeOf (now (output .entry)) «output_pitch») (framesOf (planeOf (now (first .entry)) «first_pitch») (planeOf (now (second .entry)) «second_pitch») time)) (layerOf (numbers (now (luma .entry))) (numbers (now (chroma1 .entry))) (numbers (now (chroma2 .entry))) «luma_pitch» «chroma_pitch» width height ratio) (now (output .exit)) r ⌝ }
+{
+    host::safeteal_unpeel(
         luma,
         chroma1,
         chroma2,

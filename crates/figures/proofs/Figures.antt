@@ -79,7 +79,7 @@ refusedPel = refl
 
 pub refusedGrids : RefusedGrids
 unfolding Ieee.add Ieee.div Ieee.eq Ieee.isNan Ieee.le Ieee.lt Ieee.mul Ieee.ofBits Ieee.ofInt Ieee.sub Ieee.toUnsigned counted each scan scanRow tally turns abs clamp max median min mix negative pixel rounded firstFitting renderRefusal isPlain total chromaTexel distance gainTotal gap lumaTexel mixedModel modelAt sample texel filled gathered lifted meanOr point ring scene stepped under layered base between chosen composed exchanged far farthest moved ownSteps reach renderRule rendered seen timed column columnTaps rowTaps step steps taps
-refusedGrids = (refl, refl)
+refusedGrids = (refl, refl, refl)
 
 pub refusedSteps : RefusedSteps
 unfolding each firstFitting holdRefusal

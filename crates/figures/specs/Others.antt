@@ -179,9 +179,12 @@ renderOne field width height pel =
 abbrev pub RefusedPel : Type 0
 RefusedPel = renderAnswer (renderOne (1024 ∷ []) 1 1 (pos 0)) ≡ refused 5
 
--- lengths come before numbers, and no product wraps: a grid of 2^32 by 2^32 has 2^64 blocks, one of 0 by 5 none
+-- lengths come before numbers, and no product wraps: a grid of 2^32 by 2^32 has 2^64 blocks, one of 0 by 5 none; 4097 by 1 has the right length and a wrong side
 abbrev pub RefusedGrids : Type 0
-RefusedGrids = (renderAnswer (renderOne [] 4294967296 4294967296 (pos 1)) ≡ refused 4) × (renderAnswer (renderOne [] 0 5 (pos 1)) ≡ refused 5)
+RefusedGrids =
+    (renderAnswer (renderOne [] 4294967296 4294967296 (pos 1)) ≡ refused 4)
+    × (renderAnswer (renderOne [] 0 5 (pos 1)) ≡ refused 5)
+    × (renderAnswer (renderOne (replicate 4097 1024) 4097 1 (pos 1)) ≡ refused 5)
 
 -- "a mask width or mask length with no whole step of 1..8": 3 cells over 2 pixels, 9 over 1, none
 abbrev pub heldBy : (width : ℕ) → (mask : List ℕ) → (maskWidth : ℕ) → ℕ

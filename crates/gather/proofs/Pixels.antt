@@ -3,22 +3,26 @@
 use mathlib.Core.Path.{_≡_, refl, ap, _∙_}
 use mathlib.Core.Logic.{⊎-elim}
 use mathlib.Core.List.{List}
-use Prim.Native.Nat.{ℕ, suc, _+_, _*_, _≤_, _<_}
-use native.Mathlib.Nat.{add-zero, add-assoc, zero-mul, mul-zero, mul-suc, mul-comm, mul-add, suc-mul, mul-le-mul-left, mul-le-mul-right}
+use Prim.Native.Nat.{ℕ, zero, suc, _+_, _-_, _*_, _≤_, _<_}
+use native.Mathlib.Nat.{add-zero, add-suc, add-assoc, zero-mul, mul-zero, mul-suc, mul-comm, mul-add, suc-mul, mul-le-mul-left, mul-le-mul-right}
 use native.Mathlib.Numerals.{add-one}
 use native.Mathlib.Omega.{arith}
-use lib.Ieee.{Float}
+use lib.Ieee.{Float, nan}
+use lib.ListN.{length, getD}
 use Rattle.rules.specs.declared.Steps.{Steps}
 use Rattle.rules.specs.declared.Taps.{Taps}
 use Rattle.rules.specs.Forms.{turns}
-use Rattle.rules.specs.Motion.{rowTaps, columnTaps, steps}
-use Rattle.rules.specs.Stats.{terms}
-use Rattle.motion.specs.declared.Carried.{Carried}
-use Rattle.motion.specs.Moves.{Carries, mixedSteps}
-use Rattle.motion.proofs.Fields.{carried-steps}
+use Rattle.rules.specs.Motion.{rowTaps, steps}
+use Rattle.rules.specs.Reading.{at}
+use Rattle.rules.specs.Stats.{sixTerms, terms}
+use Rattle.motion.specs.Moves.{stepsBy}
+use Rattle.motion.proofs.Fields.{by-rows}
+use Rattle.sample.specs.Points.{PlaneFits}
 use Rattle.terms.specs.declared.Terms.{Terms}
 use Rattle.terms.specs.Terms.{listOf, movedOf, termsBy}
-use Rattle.gather.specs.Sums.{twoAdded, termsAdded, Pass, rowAdded, rowsAdded, SixOrTwo}
+use Rattle.batch.specs.declared.Shifts.{Shifts}
+use Rattle.batch.specs.Lanes.{Lanes, Shifted}
+use Rattle.gather.specs.Sums.{twoAdded, termsAdded, runAdded, Pass, termsOf, rowAdded, rowsAdded, RowPart, SixOrTwo}
 
 module _ (pairs : ℕ) (t : Terms) (k many : ℕ) (l m : List Float) (first : m ≡ twoAdded pairs (t .p) (t .i) k l) where
   pub two : SixOrTwo many → (many ≡ 6 → ⊥) → m ≡ termsAdded pairs many (listOf t) k l
@@ -32,38 +36,107 @@ module _ (pairs : ℕ) (t : Terms) (k many : ℕ) (l m : List Float) (first : m 
 
 -- ---- a row
 
-by-steps : (f : Pass) (x y : ℕ) → termsBy (f .first) (f .second) (steps (f .motion) (f .ratio) x y) (f .size) x y ≡ terms (f .first) (f .second) (f .motion) (f .size) (f .ratio) x y
+by-steps : (f : Pass) (x y : ℕ) → termsBy (f .first) (f .second) (steps (f .motion) (f .ratio) x y) (f .size) x y ≡ termsOf f x y
 unfolding terms termsBy movedOf
 by-steps f x y = refl
 
--- the terms that the columns carried to a pixel give are the definition's
-pub pixel-terms : (f : Pass) (x y : ℕ) (down : Taps) (c : Carried) (s : Steps) (ts : List Float) → down ≡ rowTaps (f .motion) (f .ratio) y
-    → Carries (f .motion) (f .ratio) down (columnTaps (f .motion) (f .ratio) x) c → s ≡ mixedSteps c
-    → ts ≡ termsBy (f .first) (f .second) s (f .size) x y → ts ≡ terms (f .first) (f .second) (f .motion) (f .size) (f .ratio) x y
-pixel-terms f x y down c s ts d h e t =
-    t ∙ ap (λ (z : Steps). termsBy (f .first) (f .second) z (f .size) x y) (e ∙ carried-steps (f .motion) (f .ratio) x y c (rw d at h)) ∙ by-steps f x y
+-- the terms that a pixel's steps give are the definition's
+pub lane-terms : (f : Pass) (x y : ℕ) (down : Taps) (pb pa : Float) (s : Steps) → down ≡ rowTaps (f .motion) (f .ratio) y
+    → s ≡ stepsBy (f .motion) (f .ratio) down x
+    → pb ≡ movedOf (f .first) x y (s .fx) (s .fy) (f .size)
+    → pa ≡ movedOf (f .second) x y (s .bx) (s .by) (f .size)
+    → sixTerms pb pa (at (f .second) x y) (at (f .first) x y) ≡ termsOf f x y
+unfolding termsBy
+lane-terms f x y down pb pa s d e b a =
+    let known : termsBy (f .first) (f .second) s (f .size) x y ≡ termsOf f x y =
+    ap (λ (z : Steps). termsBy (f .first) (f .second) z (f .size) x y) (e ∙ rw d (by-rows (f .motion) (f .ratio) x y)) ∙ by-steps f x y in
+    rw (b, a) known
 
--- no pixel of a row yet
+-- no pixel of a run yet
+pub run-none : (pairs many : ℕ) (ts : ℕ → List Float) (place : ℕ) (l : List Float) → l ≡ runAdded pairs many ts place 0 l
+unfolding runAdded turns
+run-none pairs many ts place l = refl
+
 pub row-none : (pairs many : ℕ) (f : Pass) (y place : ℕ) (l : List Float) → l ≡ rowAdded pairs many f y place 0 l
-unfolding rowAdded turns
-row-none pairs many f y place l = refl
+unfolding rowAdded
+row-none pairs many f y place l = run-none pairs many (λ x. termsOf f x y) place l
 
 pub first-place : (many place : ℕ) → place ≡ place + many * 0
 first-place many place = omega (arith, mul-zero many)
 
--- the pixels of a row so far, and one more
-pub row-more : (pairs many : ℕ) (f : Pass) (y place x k : ℕ) (before l ts r : List Float) → l ≡ rowAdded pairs many f y place x before
-    → k ≡ place + many * x → ts ≡ terms (f .first) (f .second) (f .motion) (f .size) (f .ratio) x y → r ≡ termsAdded pairs many ts k l
-    → r ≡ rowAdded pairs many f y place (x + 1) before
-unfolding rowAdded turns
-row-more pairs many f y place x k before l ts r so-far at these more = rw (add-one x, more, these, at, so-far)
+-- the pixels of a run so far, and one more
+pub run-more : (pairs many : ℕ) (ts : ℕ → List Float) (place k at : ℕ) (before l t r : List Float) → l ≡ runAdded pairs many ts place k before
+    → at ≡ place + many * k → t ≡ ts k → r ≡ termsAdded pairs many t at l → r ≡ runAdded pairs many ts place (k + 1) before
+unfolding runAdded turns
+run-more pairs many ts place k at before l t r so-far there these more = rw (add-one k, more, these, there, so-far)
 
--- a pixel's place lies within the row's
-pub room : (many x width : ℕ) → x < width → many * x + many ≤ many * width
-room many x width h = rw (mul-suc many x) at (mul-le-mul-left many h)
+-- a run is added by the terms of its own pixels alone
+pub run-same : (pairs many : ℕ) (ts us : ℕ → List Float) (place n : ℕ) (l : List Float) → ((k : ℕ) → k < n → ts k ≡ us k)
+    → runAdded pairs many ts place n l ≡ runAdded pairs many us place n l
+unfolding runAdded turns
+run-same pairs many ts us place zero l same = refl
+run-same pairs many ts us place (suc n) l same =
+    rw (same n (omega arith), run-same pairs many ts us place n l (λ k h. same k (omega arith)))
 
-pub next : (many x place k : ℕ) → k ≡ place + many * x → k + many ≡ place + many * (x + 1)
-next many x place k e = let m : many * (x + 1) ≡ many * x + many = rw (add-one x) (mul-suc many x) in omega arith
+-- a run is added by the samples of its moved pixels
+pub run-is : (pairs many : ℕ) (f : Pass) (down : Taps) (x y n place : ℕ) (s : Shifts) (pb pa before after : List Float)
+    → down ≡ rowTaps (f .motion) (f .ratio) y
+    → Shifted (f .motion) (f .ratio) down x n s
+    → Lanes n nan (λ k. movedOf (f .first) (x + k) y (getD (s .fx) k nan) (getD (s .fy) k nan) (f .size)) pb
+    → Lanes n nan (λ k. movedOf (f .second) (x + k) y (getD (s .bx) k nan) (getD (s .by) k nan) (f .size)) pa
+    → after ≡ runAdded pairs many (λ k. sixTerms (getD pb k nan) (getD pa k nan) (at (f .second) (x + k) y) (at (f .first) (x + k) y)) place n before
+    → after ≡ runAdded pairs many (λ k. termsOf f (x + k) y) place n before
+run-is pairs many f down x y n place s pb pa before after d steps b a added =
+    added ∙ run-same pairs many _ _ place n before
+    (λ k h. lane-terms f (x + k) y down (getD pb k nan) (getD pa k nan) (lane k) d (rw (steps .fx k h, steps .fy k h, steps .bx k h, steps .by k h)) (b k h) (a k h))
+  where
+    lane : ℕ → Steps
+    lane k = record { fx = getD (s .fx) k nan; fy = getD (s .fy) k nan; bx = getD (s .bx) k nan; by = getD (s .by) k nan }
+
+-- a run after another
+run-after : (pairs many : ℕ) (ts : ℕ → List Float) (place x n : ℕ) (l : List Float)
+    → runAdded pairs many (λ j. ts (x + j)) (place + many * x) n (runAdded pairs many ts place x l) ≡ runAdded pairs many ts place (x + n) l
+unfolding runAdded turns
+run-after pairs many ts place x zero l = rw (add-zero x)
+run-after pairs many ts place x (suc n) l =
+    rw (add-suc x n, run-after pairs many ts place x n l, add-assoc place (many * x) (many * n), ← (mul-add many x n))
+
+-- the pixels of a row so far, and a run more
+pub row-more : (pairs many : ℕ) (f : Pass) (y place x n k : ℕ) (before l r : List Float) → l ≡ rowAdded pairs many f y place x before
+    → k ≡ place + many * x → r ≡ runAdded pairs many (λ j. termsOf f (x + j) y) k n l → r ≡ rowAdded pairs many f y place (x + n) before
+unfolding rowAdded
+row-more pairs many f y place x n k before l r so-far there more =
+    rw (more, so-far, there) (run-after pairs many (λ j. termsOf f j y) place x n before)
+
+-- a pixel of a run, in a byte plane
+pub in-part : {raw : List ℕ} {pitch x y n : ℕ} (k : ℕ) → RowPart raw pitch x y n → k < n
+    → (x + k ≤ 65536) × (y ≤ 65536) × (pitch ≤ 65536) × (y * pitch + (x + k) < length raw)
+in-part k part h = (omega (arith, part .across), omega (arith, part .low), part .apart, omega (arith, part .long))
+
+-- a run within a plane
+pub part-of : {raw : List ℕ} {pitch width height : ℕ} (x y n : ℕ) → PlaneFits raw pitch width height → x + n ≤ width → y < height → RowPart raw pitch x y n
+part-of {raw} {pitch} {width} {height} x y n fits across down =
+    let h : y ≤ height - 1 = omega arith in
+    record {
+      across = omega (arith, fits .wide .1);
+      low = omega (arith, fits .tall .1);
+      apart = fits .apart .1;
+      long = omega (arith, fits .long, mul-le-mul-right pitch h);
+    }
+
+-- a pixel's places lie within the run's
+pub one-room : (many k n : ℕ) → k < n → many * k + many ≤ many * n
+one-room many k n h = rw (mul-suc many k) at (mul-le-mul-left many h)
+
+pub one-next : (many k place at : ℕ) → at ≡ place + many * k → at + many ≡ place + many * (k + 1)
+one-next many k place at e = let m : many * (k + 1) ≡ many * k + many = rw (add-one k) (mul-suc many k) in omega arith
+
+-- a run's places lie within the row's
+pub room : (many x n width : ℕ) → x + n ≤ width → many * x + many * n ≤ many * width
+room many x n width h = rw (mul-add many x n) at (mul-le-mul-left many h)
+
+pub next : (many x n place k : ℕ) → k ≡ place + many * x → k + many * n ≡ place + many * (x + n)
+next many x n place k e = rw (e, mul-add many x n, add-assoc place (many * x) (many * n))
 
 -- ---- rows
 

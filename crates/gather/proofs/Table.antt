@@ -10,10 +10,10 @@ use lib.ListN.{length, getD}
 use lib.Ieee.{Float, nan}
 use Rattle.rules.specs.Forms.{turns, area}
 use Rattle.rules.specs.Float.{_⊕_}
-use Rattle.rules.specs.Stats.{terms, added}
+use Rattle.rules.specs.Stats.{added}
 use Rattle.tables.specs.Filled.{filled}
 use Rattle.tables.proofs.Laws.{filled-after, filled-more, filled-all}
-use Rattle.gather.specs.Sums.{startOf, oneAdded, termsAdded, Pass, rowAdded, rowsAdded}
+use Rattle.gather.specs.Sums.{startOf, oneAdded, termsAdded, runAdded, Pass, termsOf, rowAdded, rowsAdded}
 
 -- entry j of `many` that belong to p
 entry-of : (many p j : ℕ) → j < many → ((many * p + j) / many ≡ p) × ((many * p + j) % many ≡ j)
@@ -23,12 +23,9 @@ module _ (pairs many : ℕ) (f : Pass) (old : List Float) where
   abbrev width : ℕ
   width = f .size .0
 
-  abbrev termsOf : (x y : ℕ) → List Float
-  termsOf x y = terms (f .first) (f .second) (f .motion) (f .size) (f .ratio) x y
-
   -- what the table holds
   abbrev entry : ℕ → Float
-  entry i = startOf pairs (getD old i nan) ⊕ getD (termsOf (i / many % width) (i / many / width)) (i % many) nan
+  entry i = startOf pairs (getD old i nan) ⊕ getD (termsOf f (i / many % width) (i / many / width)) (i % many) nan
 
   -- a sum more
   one : (k : ℕ) (l : List Float) (term : Float) → l ≡ filled k entry old → startOf pairs (getD old k nan) ⊕ term ≡ entry k
@@ -45,7 +42,7 @@ module _ (pairs many : ℕ) (f : Pass) (old : List Float) where
       rw (add-suc k n) (one (k + n) (termsAdded pairs n ts k l) (getD ts n nan) (pixel ts k l so-far e n (omega arith)) (e n (omega arith)))
 
   -- a term of pixel (x, y) is the table's
-  term : (x y j : ℕ) → x < width → j < many → getD (termsOf x y) j nan ≡ getD (termsOf ((many * (y * width + x) + j) / many % width) ((many * (y * width + x) + j) / many / width)) ((many * (y * width + x) + j) % many) nan
+  term : (x y j : ℕ) → x < width → j < many → getD (termsOf f x y) j nan ≡ getD (termsOf f ((many * (y * width + x) + j) / many % width) ((many * (y * width + x) + j) / many / width)) ((many * (y * width + x) + j) % many) nan
   term x y j h l =
       let e = entry-of many (y * width + x) j l in
       rw (e .0, e .1, digits-mod y h, digits-div y h)
@@ -53,13 +50,13 @@ module _ (pairs many : ℕ) (f : Pass) (old : List Float) where
   -- the first n pixels of row y
   row : (y : ℕ) (l : List Float) → l ≡ filled (many * (y * width)) entry old → (n : ℕ) → n ≤ width
       → rowAdded pairs many f y (many * (y * width)) n l ≡ filled (many * (y * width) + many * n) entry old
-  unfolding rowAdded turns
+  unfolding rowAdded runAdded turns
   row y l so-far zero h = rw (mul-zero many, add-zero (many * (y * width))) so-far
   row y l so-far (suc n) h =
       let k = many * (y * width) + many * n in
       let at : k ≡ many * (y * width + n) = sym (mul-add many (y * width) n) in
       rw (mul-suc many n, ← (add-assoc (many * (y * width)) (many * n) many))
-      (pixel (termsOf n y) k (rowAdded pairs many f y (many * (y * width)) n l) (row y l so-far n (omega arith))
+      (pixel (termsOf f n y) k (rowAdded pairs many f y (many * (y * width)) n l) (row y l so-far n (omega arith))
       (λ j b. rw at (ap (λ (t : Float). startOf pairs (getD old (many * (y * width + n) + j) nan) ⊕ t) (term n y j (omega arith) b)))
       many (omega arith))
 

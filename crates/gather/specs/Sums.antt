@@ -3,9 +3,9 @@ use mathlib.Core.Path.{_≡_}
 use mathlib.Core.Logic.{_⊎_}
 use mathlib.Core.Bool.{cond}
 use mathlib.Core.List.{List}
-use Prim.Native.Nat.{ℕ, _+_, _*_, _<_}
+use Prim.Native.Nat.{ℕ, _+_, _*_, _≤_, _<_}
 use lib.Dec.{eqb}
-use lib.ListN.{getD, set}
+use lib.ListN.{length, getD, set}
 use lib.Ieee.{Float, nan}
 use Rattle.rules.specs.Forms.{Plane, Motion, turns}
 use Rattle.rules.specs.Literals.{0·0}
@@ -34,6 +34,10 @@ twoAdded pairs a b k sums = oneAdded pairs b (k + 1) (oneAdded pairs a k sums)
 unfoldable pub termsAdded : (pairs many : ℕ) → (terms : List Float) → (k : ℕ) → List Float → List Float
 termsAdded pairs many ts k = turns (λ j. oneAdded pairs (getD ts j nan) (k + j)) many
 
+-- the terms of n pixels, one after the other, from place k on
+unfoldable pub runAdded : (pairs many : ℕ) → (terms : ℕ → List Float) → (k n : ℕ) → List Float → List Float
+runAdded pairs many ts k = turns (λ j. termsAdded pairs many (ts j) (k + many * j))
+
 -- a pair of planes, with the motion between them
 pub record Pass : Type 0 where
   pub first : Plane
@@ -42,9 +46,13 @@ pub record Pass : Type 0 where
   pub size : ℕ × ℕ
   pub ratio : ℕ
 
+-- the terms of pixel (x, y)
+abbrev pub termsOf : Pass → (x y : ℕ) → List Float
+termsOf f x y = terms (f .first) (f .second) (f .motion) (f .size) (f .ratio) x y
+
 -- the first `width` pixels of row y, from place k on
 unfoldable pub rowAdded : (pairs many : ℕ) → Pass → (y k width : ℕ) → List Float → List Float
-rowAdded pairs many f y k = turns (λ x. termsAdded pairs many (terms (f .first) (f .second) (f .motion) (f .size) (f .ratio) x y) (k + many * x))
+rowAdded pairs many f y = runAdded pairs many (λ x. termsOf f x y)
 
 -- the first `height` rows
 unfoldable pub rowsAdded : (pairs many : ℕ) → Pass → (height : ℕ) → List Float → List Float
@@ -79,7 +87,20 @@ pub record Started (f : Pass) (down : Taps) (start : Carried) (y : ℕ) : Type 0
   pub holds : Holds (f .motion) (f .ratio) down start
   pub low : y < f .size .1
 
--- one pixel is added, from place k on, and its columns are held
-pub record PixelDone (pairs many : ℕ) (f : Pass) (down : Taps) (x y k : ℕ) (before after : List Float) (c : Carried) : Type 0 where
-  pub sums : after ≡ termsAdded pairs many (terms (f .first) (f .second) (f .motion) (f .size) (f .ratio) x y) k before
+-- n pixels of a row from column x on, in a byte plane
+pub record RowPart (raw : List ℕ) (pitch x y n : ℕ) : Type 0 where
+  pub across : x + n ≤ 4096
+  pub low : y ≤ 4096
+  pub apart : pitch ≤ 65536
+  pub long : y * pitch + (x + n) ≤ length raw
+
+-- n pixels of row y are added, from column x and place k on, and columns are held
+pub record RunDone (pairs many : ℕ) (f : Pass) (down : Taps) (x y n k : ℕ) (before after : List Float) (c : Carried) : Type 0 where
+  pub sums : after ≡ runAdded pairs many (λ j. termsOf f (x + j) y) k n before
   pub holds : Holds (f .motion) (f .ratio) down c
+
+-- a run of at most 32 pixels of those that are left, and of one at least
+pub record Length (left n : ℕ) : Type 0 where
+  pub some : 1 ≤ n
+  pub within : n ≤ left
+  pub few : n ≤ 32

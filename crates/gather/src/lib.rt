@@ -5,11 +5,13 @@ use rules::Taps;
 use terms::Terms;
 ghost use mathlib.Core.Path.{_≡_};
 ghost use Prim.Native.Nat.{_+_, _*_, _<_, _≤_};
-ghost use lib.ListN.{length};
-ghost use Rattle.rules.specs.Stats.{added};
+ghost use lib.ListN.{length, getD};
+ghost use lib.Ieee.{nan};
+ghost use Rattle.rules.specs.Reading.{at};
+ghost use Rattle.rules.specs.Stats.{sixTerms, added};
 ghost use Rattle.motion.specs.Moves.{motionOf};
 ghost use Rattle.terms.specs.Terms.{listOf};
-ghost use Rattle.gather.specs.Sums.{oneAdded, twoAdded, termsAdded, rowAdded, SixOrTwo, Gathers, passOf, Started, PixelDone};
+ghost use Rattle.gather.specs.Sums.{oneAdded, twoAdded, termsAdded, runAdded, rowAdded, SixOrTwo, Gathers, passOf, Started, RowPart, RunDone, Length};
 
 // Adds a term to one sum. With 0 pairs before, what the slice holds is not read.
 fn add(sums: &mut [f32], k: usize, pairs: usize, term: f32)
@@ -44,10 +46,41 @@ fn add_terms(sums: &mut [f32], k: usize, many: usize, pairs: usize, t: Terms)
     }
 }
 
-// One pixel, and the columns to carry to the next.
-fn gather_pixel(
+// Adds the terms of n pixels of a row, from x on: pb and pa are the moved samples.
+fn add_run(
     sums: &mut [f32],
-    k: usize,
+    place: usize,
+    many: usize,
+    pairs: usize,
+    first: &[u8],
+    first_pitch: usize,
+    second: &[u8],
+    second_pitch: usize,
+    pb: [f32; 32],
+    pa: [f32; 32],
+    x: usize,
+    y: usize,
+    n: usize,
+)
+    requires { ⌜ RowPart (now first) «first_pitch» x y n × RowPart (now second) «second_pitch» x y n × SixOrTwo many × (n ≤ 32) × (place + many * n ≤ length (now sums)) ⌝ }
+    ensures { λ _. ⌜ now (sums .exit) ≡ runAdded pairs many (λ k. sixTerms (getD pb k nan) (getD pa k nan) (at (record { bytes = now (second .entry); pitch = «second_pitch» }) (x + k) y) (at (record { bytes = now (first .entry); pitch = «first_pitch» }) (x + k) y)) place n (now (sums .entry)) ⌝ }
+{
+    let mut at = place;
+    let mut k = 0;
+    while k < n {
+        let ib = sample::at(second, second_pitch, x + k, y);
+        let ia = sample::at(first, first_pitch, x + k, y);
+        let t = terms::six_terms(pb[k], pa[k], ib, ia);
+        add_terms(sums, at, many, pairs, t);
+        at += many;
+        k += 1;
+    }
+}
+
+// Adds n pixels of row y, from x on. Gives the columns to carry on.
+fn gather_run(
+    sums: &mut [f32],
+    place: usize,
     many: usize,
     pairs: usize,
     first: &[u8],
@@ -66,11 +99,12 @@ fn gather_pixel(
     previous: Carried,
     x: usize,
     y: usize,
+    n: usize,
 ) -> Carried
-    requires { ⌜ Gathers (now first) «first_pitch» (now second) «second_pitch» (now «forward_x») (now «forward_y») (now «backward_x») (now «backward_y») grid width height ratio × SixOrTwo many × Started (passOf (now first) «first_pitch» (now second) «second_pitch» (now «forward_x») (now «forward_y») (now «backward_x») (now «backward_y») grid width height ratio) down previous y × (x < width) × (k + many ≤ length (now sums)) ⌝ }
-    ensures { λ r. ⌜ PixelDone pairs many (passOf (now (first .entry)) «first_pitch» (now (second .entry)) «second_pitch» (now («forward_x» .entry)) (now («forward_y» .entry)) (now («backward_x» .entry)) (now («backward_y» .entry)) grid width height ratio) down x y k (now (sums .entry)) (now (sums .exit)) r ⌝ }
+    requires { ⌜ Gathers (now first) «first_pitch» (now second) «second_pitch» (now «forward_x») (now «forward_y») (now «backward_x») (now «backward_y») grid width height ratio × SixOrTwo many × Started (passOf (now first) «first_pitch» (now second) «second_pitch» (now «forward_x») (now «forward_y») (now «backward_x») (now «backward_y») grid width height ratio) down previous y × (x + n ≤ width) × (n ≤ 32) × (place + many * n ≤ length (now sums)) ⌝ }
+    ensures { λ r. ⌜ RunDone pairs many (passOf (now (first .entry)) «first_pitch» (now (second .entry)) «second_pitch» (now («forward_x» .entry)) (now («forward_y» .entry)) (now («backward_x» .entry)) (now («backward_y» .entry)) grid width height ratio) down x y n place (now (sums .entry)) (now (sums .exit)) r ⌝ }
 {
-    let held = motion::carry(
+    let s = batch::steps(
         forward_x,
         forward_y,
         backward_x,
@@ -80,24 +114,42 @@ fn gather_pixel(
         down,
         previous,
         x,
+        n,
     );
-    let s = motion::steps_of(held);
-    let t = terms::terms_by(
+    let fx = s.fx;
+    let fy = s.fy;
+    let bx = s.bx;
+    let by = s.by;
+    let pb = batch::moved(first, first_pitch, fx, fy, width, height, x, y, n);
+    let pa = batch::moved(second, second_pitch, bx, by, width, height, x, y, n);
+    add_run(
+        sums,
+        place,
+        many,
+        pairs,
         first,
         first_pitch,
         second,
         second_pitch,
-        s,
-        width,
-        height,
+        pb,
+        pa,
         x,
         y,
+        n,
     );
-    add_terms(sums, k, many, pairs, t);
-    held
+    s.held
 }
 
-// The pixels of a row, from place `place` on: a block's pixels share their columns, which are carried.
+// How many pixels of those left in a row are added at once.
+fn run_length(left: usize) -> usize
+    requires { ⌜ 1 ≤ left ⌝ }
+    ensures { λ r. ⌜ Length left r ⌝ }
+{
+    if left < 32 { left } else { 32 }
+}
+
+// The pixels of a row, from place `place` on, run by run: neighbours share the columns of their block, which
+// are carried.
 fn gather_pixels(
     sums: &mut [f32],
     place: usize,
@@ -126,7 +178,8 @@ fn gather_pixels(
     let mut k = place;
     let mut x = 0;
     while x < width {
-        held = gather_pixel(
+        let n = run_length(width - x);
+        held = gather_run(
             sums,
             k,
             many,
@@ -147,9 +200,10 @@ fn gather_pixels(
             held,
             x,
             y,
+            n,
         );
-        k += many;
-        x += 1;
+        k += many * n;
+        x += n;
     }
 }
 

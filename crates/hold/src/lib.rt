@@ -21,7 +21,7 @@ fn weighed(kept: u8, made: u8, sum: u32, full: u32) -> u8
 
 // What pixel (x, y) becomes. One of full sum stays as it was made: it is passed over before it is
 // weighed, or, where `skip` is false, weighed like the others: a row is then a loop without a branch.
-fn hold_dot(
+fn hold_pixel(
     made: u8,
     held: &[u8],
     held_pitch: usize,
@@ -65,7 +65,7 @@ fn hold_row(
     let mut x = 0;
     while x < width {
         let k = plane::place(y, output_pitch, x);
-        output[k] = hold_dot(
+        output[k] = hold_pixel(
             output[k],
             held,
             held_pitch,

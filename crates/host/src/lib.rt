@@ -8,7 +8,7 @@ ghost use Prim.Native.Nat.{_≤_};
 ghost use Rattle.rules.specs.Forms.{uncounted};
 ghost use Rattle.rules.specs.Calls.{PeelCall, UnpeelCall, RenderCall, StatsCall, FitCall, AssembleCall, DistancesCall, MaskCall, ApplyCall, HoldCall};
 ghost use Rattle.rules.specs.Refusals.{statsRefusal, distancesRefusal, maskRefusal, applyRefusal, holdRefusal};
-ghost use Rattle.rules.specs.Float.{pixel as pixelOf, cut as cutOf, stored as storedOf};
+ghost use Rattle.rules.specs.Float.{pixel as pixelOf, stored as storedOf};
 ghost use Rattle.rules.specs.Distances.{distancesLeaves};
 ghost use Rattle.rules.specs.Reading.{emptyAnswer};
 ghost use Rattle.rules.specs.Assembly.{assembleRefusal, assembleLeaves};
@@ -549,19 +549,12 @@ pub extern "C" fn safeteal_render(
     ))
 }
 
-// The final rounding, the cut and the storing by themselves, for a run over all floats.
+// The final rounding and the storing by themselves, for a run over all floats.
 #[no_mangle]
 pub extern "C" fn safeteal_pixel(value: f32) -> u64
     ensures { λ r. ⌜ r ≡ pixelOf value ⌝ }
 {
     float::pixel(value) as u64
-}
-
-#[no_mangle]
-pub extern "C" fn safeteal_cut(value: f32) -> u64
-    ensures { λ r. ⌜ r ≡ cutOf value ⌝ }
-{
-    float::cut(value) as u64
 }
 
 #[no_mangle]

@@ -44,7 +44,11 @@ fn keep_pixel(
         return;
     }
     let v = near::verdict_at(models, width, height, x, y);
-    let cell = plane::place(y / 8, table::cells(width), x / 8);
+    let cell = plane::place(
+        lookup::cell_of(y, 8),
+        table::cells(width),
+        lookup::cell_of(x, 8),
+    );
     mark(kept, cover, at, cell, v);
 }
 

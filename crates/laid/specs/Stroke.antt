@@ -9,8 +9,8 @@ use Rattle.rules.specs.declared.Model.{Model}
 use Rattle.rules.specs.Float.{float, pixel}
 use Rattle.rules.specs.Model.{isPlain}
 use Rattle.rules.specs.Unpeel.{relaid}
-use Rattle.plane.specs.declared.Dot.{Dot}
-use Rattle.plane.specs.declared.Dot.the-variants.{Keep, Put}
+use Rattle.plane.specs.declared.Change.{Change}
+use Rattle.plane.specs.declared.Change.the-variants.{Keep, Put}
 use Rattle.laid.specs.declared.Stroke.{Stroke}
 
 -- a byte of a plane
@@ -22,6 +22,6 @@ pub record IsLaid (m : Model) (first second time : Float) (old : ℕ) (r : Strok
   pub put-is : r .put ≡ not (isPlain m)
   pub byte-is : r .byte ≡ pixel (relaid m first second time (float old))
 
--- the same as a dot
-abbrev pub dotOf : Stroke → Dot
-dotOf d = cond (d .put) (Put (d .byte)) Keep
+-- the same as a change
+abbrev pub changeOf : Stroke → Change
+changeOf d = cond (d .put) (Put (d .byte)) Keep

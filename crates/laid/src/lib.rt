@@ -6,7 +6,7 @@ ghost use Prim.Native.Nat.{_<_, _^_};
 ghost use lib.ListN.{length};
 ghost use Rattle.rules.specs.Reading.{at};
 ghost use Rattle.plane.specs.Done.{Stamped};
-ghost use Rattle.laid.specs.Stroke.{ByteIn, IsLaid, dotOf};
+ghost use Rattle.laid.specs.Stroke.{ByteIn, IsLaid, changeOf};
 
 // What is done to a pixel: whether it is written, and the byte that is put there then.
 pub struct Stroke {
@@ -55,7 +55,7 @@ pub fn laid(
 // they go side by side.
 pub fn mark(output: &mut [u8], k: usize, d: Stroke, count: u32) -> u32
     requires { ⌜ (k < length (now output)) × (count < 2 ^ 31) ⌝ }
-    ensures { λ r. ⌜ Stamped (now (output .entry)) k (dotOf d) count (now (output .exit)) r ⌝ }
+    ensures { λ r. ⌜ Stamped (now (output .entry)) k (changeOf d) count (now (output .exit)) r ⌝ }
 {
     let old = output[k];
     output[k] = kept(d.put, d.byte, old);

@@ -4,8 +4,8 @@ use mathlib.Core.Bool.{true, false, not}
 use Prim.Native.Nat.{ℕ, _≤_}
 use lib.ListN.{getD}
 use lib.Ieee.{Float}
-use Rattle.plane.specs.declared.Dot.the-variants.{Keep, Put}
-use Rattle.plane.specs.Done.{dot}
+use Rattle.plane.specs.declared.Change.the-variants.{Keep, Put}
+use Rattle.plane.specs.Done.{change}
 use Rattle.rules.specs.declared.Model.{Model}
 use Rattle.rules.specs.declared.Scene.the-variants.{Lifted, Raw}
 use Rattle.rules.specs.Forms.{Layer, Plane}
@@ -41,13 +41,13 @@ far-writes l plane x y t = rw t
 -- ---- what is done to a pixel of a near cell
 
 module _ (w : Work) (l : Layer) (plane : ℕ) (first second : Plane) (x y old : ℕ) (near : (gap l plane x y ≼ 0·0) ≡ true) where
-  pub dot-keep : isPlain (texel l plane x y) ≡ true → Keep ≡ dot (ruleOf w l plane first second) x y old
-  unfolding dot
-  dot-keep t = sym (simp (writes-is w l plane first second x y ∙ near-writes l plane x y near, t))
+  pub change-keep : isPlain (texel l plane x y) ≡ true → Keep ≡ change (ruleOf w l plane first second) x y old
+  unfolding change
+  change-keep t = sym (simp (writes-is w l plane first second x y ∙ near-writes l plane x y near, t))
 
-  pub dot-put : (b : ℕ) → isPlain (texel l plane x y) ≡ false → b ≡ ruleOf w l plane first second .byte x y old → Put b ≡ dot (ruleOf w l plane first second) x y old
-  unfolding dot
-  dot-put b t e = rw e (sym (simp (writes-is w l plane first second x y ∙ near-writes l plane x y near, t)))
+  pub change-put : (b : ℕ) → isPlain (texel l plane x y) ≡ false → b ≡ ruleOf w l plane first second .byte x y old → Put b ≡ change (ruleOf w l plane first second) x y old
+  unfolding change
+  change-put b t e = rw e (sym (simp (writes-is w l plane first second x y ∙ near-writes l plane x y near, t)))
 
 -- ---- the scene at a pixel
 

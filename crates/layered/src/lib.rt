@@ -1,6 +1,6 @@
 // What peel and unpeel do to one pixel: they write the same ones.
 use lent::Plan;
-use plane::Dot;
+use plane::Change;
 use rules::Model;
 use rules::Scene;
 ghost use mathlib.Core.Path.{_≡_};
@@ -11,7 +11,7 @@ ghost use Rattle.rules.specs.Float.{_≼_, float, pixel};
 ghost use Rattle.rules.specs.Reading.{gap, texel as texelOf, at};
 ghost use Rattle.rules.specs.Scene.{value, scene as sceneOf};
 ghost use Rattle.rules.specs.Unpeel.{relaid};
-ghost use Rattle.plane.specs.Done.{dot as dotOf};
+ghost use Rattle.plane.specs.Done.{change as changeOf};
 ghost use Rattle.lent.specs.Lent.{lay, Inside};
 ghost use Rattle.sample.specs.Points.{PlaneFits};
 ghost use Rattle.whole.specs.Rings.{Ready};
@@ -132,7 +132,7 @@ fn byte(
 }
 
 // What is done to a pixel of a near cell.
-pub fn dot(
+pub fn change(
     work: Work,
     p: Plan,
     l: &[i16],
@@ -148,15 +148,15 @@ pub fn dot(
     x: usize,
     y: usize,
     old: u8,
-) -> Dot
+) -> Change
     requires { ⌜ Ready p (now l) (now lb) (now a) (now ab) (now b) (now bb) (now first) fpitch × PlaneFits (now second) spitch (p .across) (p .down) × Inside p x y × ((gap (lay (p .shape) (now l) (now lb) (now a) (now ab) (now b) (now bb)) (p .shape .plane) x y ≼ 0·0) ≡ true) ⌝ }
-    ensures { λ r. ⌜ r ≡ dotOf (ruleOf work (lay (p .shape) (now (l .entry)) (now (lb .entry)) (now (a .entry)) (now (ab .entry)) (now (b .entry)) (now (bb .entry))) (p .shape .plane) (record { bytes = now (first .entry); pitch = fpitch }) (record { bytes = now (second .entry); pitch = spitch })) x y old ⌝ }
+    ensures { λ r. ⌜ r ≡ changeOf (ruleOf work (lay (p .shape) (now (l .entry)) (now (lb .entry)) (now (a .entry)) (now (ab .entry)) (now (b .entry)) (now (bb .entry))) (p .shape .plane) (record { bytes = now (first .entry); pitch = fpitch }) (record { bytes = now (second .entry); pitch = spitch })) x y old ⌝ }
 {
     let m = texel::texel(p, l, lb, a, ab, b, bb, x, y);
     if lift::plain(m) {
-        Dot::Keep
+        Change::Keep
     } else {
-        Dot::Put(byte(
+        Change::Put(byte(
             work,
             p,
             l,

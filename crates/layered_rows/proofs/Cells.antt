@@ -13,9 +13,9 @@ use Rattle.rules.specs.Forms.{Plane, Rule}
 use Rattle.rules.specs.Literals.{0·0, 8·0}
 use Rattle.rules.specs.Float.{_⊖_, _⊗_, _≼_, signed}
 use Rattle.rules.specs.Reading.{distance, gap}
-use Rattle.plane.specs.declared.Dot.{Dot}
-use Rattle.plane.specs.declared.Dot.the-variants.{Keep, Put}
-use Rattle.plane.specs.Done.{dot, Stamped}
+use Rattle.plane.specs.declared.Change.{Change}
+use Rattle.plane.specs.declared.Change.the-variants.{Keep, Put}
+use Rattle.plane.specs.Done.{change, Stamped}
 use Rattle.plane.proofs.Laws.{tallied-few, row-more, row-skip-run}
 use Rattle.lent.specs.declared.Plan.{Plan}
 use Rattle.lent.specs.Lent.{holding, Planned}
@@ -30,8 +30,8 @@ use Rattle.layered_rows.specs.Rows.{Alike, CellsTo, RowOn}
 pub run-none : (rule : Rule) (pitch y from count : ℕ) (bytes : List ℕ) → RowOn rule pitch y from from count bytes bytes count
 run-none rule pitch y from count bytes = record { on = λ f s done. done; few = omega arith }
 
-pub run-more : {rule : Rule} {pitch y from x count : ℕ} {before bytes after : List ℕ} {n r : ℕ} {d : Dot} → from ≤ x
-    → RowOn rule pitch y from x count before bytes n → d ≡ dot rule x y (getD bytes (y * pitch + x) 0) → Stamped bytes (y * pitch + x) d n after r
+pub run-more : {rule : Rule} {pitch y from x count : ℕ} {before bytes after : List ℕ} {n r : ℕ} {d : Change} → from ≤ x
+    → RowOn rule pitch y from x count before bytes n → d ≡ change rule x y (getD bytes (y * pitch + x) 0) → Stamped bytes (y * pitch + x) d n after r
     → RowOn rule pitch y from (x + 1) count before after r
 run-more {n = n} {d = d} ahead h e s =
     record {
@@ -40,7 +40,7 @@ run-more {n = n} {d = d} ahead h e s =
     }
 
 -- a run that is counted from 0
-pub counted-on : {bytes after : List ℕ} {k n r : ℕ} (count : ℕ) (d : Dot) → Stamped bytes k d n after r → Stamped bytes k d (count + n) after (count + r)
+pub counted-on : {bytes after : List ℕ} {k n r : ℕ} (count : ℕ) (d : Change) → Stamped bytes k d n after r → Stamped bytes k d (count + n) after (count + r)
 counted-on count Keep s = record { bytes = s .bytes; tally = omega (arith, s .tally) }
 counted-on count (Put b) s = record { bytes = s .bytes; tally = omega (arith, s .tally) }
 

@@ -5,6 +5,7 @@ ghost use mathlib.Core.Path.{_≡_};
 ghost use Prim.Native.Nat.{_+_, _*_, _/_, _≤_, _<_};
 ghost use Rattle.plane.specs.Done.{RowDone, RowsDone};
 ghost use Rattle.lent.specs.Lent.{lent, lay, Planned, chromaLong};
+ghost use Rattle.texel.specs.Fixed.{Fixed};
 ghost use Rattle.layered.specs.Works.{ruleOf};
 ghost use Rattle.layered_rows.specs.Rows.{Given, RunAsks, Near, CellsTo, RowAsks, RowsAsk, RowOn};
 
@@ -37,7 +38,7 @@ fn run(
     while x < to {
         let k = plane::place(y, opitch, x);
         let old = output[k];
-        let d = layered::dot(
+        let d = layered::change(
             work,
             p,
             l,
@@ -60,13 +61,16 @@ fn run(
     n
 }
 
-// The same of luma by unpeel, in straight lines.
-fn luma_run(
+// The same by unpeel where a pixel has one gain or four, in straight lines. `luma` and `span` are constants at each call: a
+// loop is compiled for each.
+fn straight_run(
     output: &mut [u8],
     opitch: usize,
     count: usize,
     time: f32,
     p: Plan,
+    luma: bool,
+    span: usize,
     l: &[i16],
     lb: &[u8],
     a: &[i16],
@@ -81,7 +85,7 @@ fn luma_run(
     from: usize,
     to: usize,
 ) -> usize
-    requires { ⌜ Given p (now l) (now lb) (now a) (now ab) (now b) (now bb) (now first) fpitch (now second) spitch × RunAsks p (now output) opitch y from to count × Near (lay (p .shape) (now l) (now lb) (now a) (now ab) (now b) (now bb)) (p .shape .plane) y from to × (p .shape .plane ≡ 0) ⌝ }
+    requires { ⌜ Given p (now l) (now lb) (now a) (now ab) (now b) (now bb) (now first) fpitch (now second) spitch × RunAsks p (now output) opitch y from to count × Near (lay (p .shape) (now l) (now lb) (now a) (now ab) (now b) (now bb)) (p .shape .plane) y from to × Fixed p luma span × (span ≤ 2) ⌝ }
     ensures { λ r. ⌜ RowOn (ruleOf (Work.Unpeel time) (lay (p .shape) (now (l .entry)) (now (lb .entry)) (now (a .entry)) (now (ab .entry)) (now (b .entry)) (now (bb .entry))) (p .shape .plane) (record { bytes = now (first .entry); pitch = fpitch }) (record { bytes = now (second .entry); pitch = spitch })) opitch y from to count (now (output .entry)) (now (output .exit)) r ⌝ }
 {
     let mut n: u32 = 0;
@@ -89,7 +93,7 @@ fn luma_run(
     while x < to {
         let k = plane::place(y, opitch, x);
         let old = output[k];
-        let m = texel::luma(p, l, lb, a, ab, b, bb, x, y);
+        let m = texel::straight(p, luma, span, l, lb, a, ab, b, bb, x, y);
         let d = laid::laid(m, first, fpitch, second, spitch, x, y, time, old);
         n = laid::mark(output, k, d, n);
         x += 1;
@@ -97,44 +101,7 @@ fn luma_run(
     count + n as usize
 }
 
-// And of chroma at ratio 2.
-fn chroma_run(
-    output: &mut [u8],
-    opitch: usize,
-    count: usize,
-    time: f32,
-    p: Plan,
-    l: &[i16],
-    lb: &[u8],
-    a: &[i16],
-    ab: &[u8],
-    b: &[i16],
-    bb: &[u8],
-    first: &[u8],
-    fpitch: usize,
-    second: &[u8],
-    spitch: usize,
-    y: usize,
-    from: usize,
-    to: usize,
-) -> usize
-    requires { ⌜ Given p (now l) (now lb) (now a) (now ab) (now b) (now bb) (now first) fpitch (now second) spitch × RunAsks p (now output) opitch y from to count × Near (lay (p .shape) (now l) (now lb) (now a) (now ab) (now b) (now bb)) (p .shape .plane) y from to × (p .span ≡ 2) ⌝ }
-    ensures { λ r. ⌜ RowOn (ruleOf (Work.Unpeel time) (lay (p .shape) (now (l .entry)) (now (lb .entry)) (now (a .entry)) (now (ab .entry)) (now (b .entry)) (now (bb .entry))) (p .shape .plane) (record { bytes = now (first .entry); pitch = fpitch }) (record { bytes = now (second .entry); pitch = spitch })) opitch y from to count (now (output .entry)) (now (output .exit)) r ⌝ }
-{
-    let mut n: u32 = 0;
-    let mut x = from;
-    while x < to {
-        let k = plane::place(y, opitch, x);
-        let old = output[k];
-        let m = texel::chroma(p, l, lb, a, ab, b, bb, x, y);
-        let d = laid::laid(m, first, fpitch, second, spitch, x, y, time, old);
-        n = laid::mark(output, k, d, n);
-        x += 1;
-    }
-    count + n as usize
-}
-
-// Either work's: each way is called once, so that all are part of the loop over runs.
+// Either work's, in the way that is fast for its plane.
 fn near_run(
     output: &mut [u8],
     opitch: usize,
@@ -161,12 +128,14 @@ fn near_run(
     if layered::unpeels(work) {
         let time = layered::time_of(work);
         if p.shape.plane == 0 {
-            return luma_run(
+            return straight_run(
                 output,
                 opitch,
                 count,
                 time,
                 p,
+                true,
+                1,
                 l,
                 lb,
                 a,
@@ -183,12 +152,14 @@ fn near_run(
             );
         }
         if p.span == 2 {
-            return chroma_run(
+            return straight_run(
                 output,
                 opitch,
                 count,
                 time,
                 p,
+                false,
+                2,
                 l,
                 lb,
                 a,

@@ -7,9 +7,10 @@ use native.Mathlib.Omega.{arith}
 use borrow.Author.Tests.{eq-eqb}
 use lib.Dec.{eqb}
 use Rattle.laws.proofs.Accepted.{part-in}
+use Rattle.lookup.specs.Side.{IsSide}
 use Rattle.lent.specs.declared.Plan.{Plan}
 use Rattle.lent.specs.declared.Shape.{Shape}
-use Rattle.lent.specs.Lent.{planOf, ratioOf, IsSide, Formed, Planned}
+use Rattle.lent.specs.Lent.{planOf, ratioOf, Formed, Planned}
 
 -- a plan's ratio is its shape's
 pub span-is : (p : Plan) → Planned p → p .span ≡ ratioOf (p .shape)

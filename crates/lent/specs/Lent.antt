@@ -8,6 +8,7 @@ use lib.ListN.{length}
 use lib.Dec.{eqb}
 use Rattle.rules.specs.Forms.{Layer}
 use Rattle.rules.specs.Host.{numbers}
+use Rattle.lookup.specs.Side.{IsSide}
 use Rattle.lent.specs.declared.Shape.{Shape}
 use Rattle.lent.specs.declared.Plan.{Plan}
 
@@ -39,10 +40,6 @@ planOf s =
       rows = s .height / s .ratio;
       side = 8 / ratioOf s;
     }
-
--- a cell's side: 8, 4 or 2
-abbrev pub IsSide : ℕ → Type 0
-IsSide side = (side ≡ 8 → ⊥) → (side ≡ 4 → ⊥) → side ≡ 2
 
 -- numbers that are not refused
 pub record Formed (s : Shape) : Type 0 where

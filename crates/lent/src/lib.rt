@@ -68,7 +68,7 @@ pub fn size(packed: bool, numbers: &[i16], bytes: &[u8]) -> usize
     }
 }
 
-// The divisions are made here, once a call.
+// A layer's shape with what follows from it: the plane's ratio and size, the chroma rows, a cell's side. The divisions are made here, once a call.
 pub fn planned(s: Shape) -> Plan
     ensures { λ r. ⌜ r ≡ planOf s ⌝ }
 {

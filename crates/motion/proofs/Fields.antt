@@ -14,11 +14,13 @@ use Rattle.laws.proofs.Lists.{place-in}
 use Rattle.laws.proofs.Signed.{again}
 use Rattle.rules.specs.declared.Taps.{Taps}
 use Rattle.rules.specs.Forms.{Motion}
-use Rattle.rules.specs.Reading.{after}
+use lib.Ieee.{Float}
+use Rattle.rules.specs.Reading.{after, heldTo}
 use Rattle.rules.specs.Motion.{taps, rowTaps, columnTaps, step, steps}
+use Rattle.sample.specs.Points.{around}
 use Rattle.motion.specs.declared.Carried.{Carried}
 use Rattle.motion.specs.declared.Grid.{Grid}
-use Rattle.motion.specs.Moves.{motionOf, laidOut, Covers, columnsOf, Holds, Carries, mixedSteps}
+use Rattle.motion.specs.Moves.{motionOf, laidOut, placeOf, Covers, columnsOf, stepsBy, Holds, Carries, mixedSteps}
 
 -- a motion number is read back from its bits
 pub back : (z : ℤ) → natAbs z ≤ 4096 → toZ w32 (ofZ w32 z) ≡ z
@@ -53,8 +55,22 @@ second : (m : Motion) (ratio x : ℕ) → columnTaps m ratio x .second ≡ after
 unfolding columnTaps taps
 second m ratio x = refl
 
--- the steps of pixel (x, y) by the columns around it
+-- the steps of a pixel by the columns around it
+pub carried-by : (m : Motion) (ratio : ℕ) (down : Taps) (x : ℕ) (c : Carried) → Carries m ratio down (columnTaps m ratio x) c → mixedSteps c ≡ stepsBy m ratio down x
+unfolding columnsOf stepsBy step
+carried-by m ratio down x c h = rw (h .holds .left, h .holds .right, h .share, h .first, second m ratio x)
+
+-- between the rows of pixel row y they are the definition's
+pub by-rows : (m : Motion) (ratio x y : ℕ) → stepsBy m ratio (rowTaps m ratio y) x ≡ steps m ratio x y
+unfolding stepsBy steps
+by-rows m ratio x y = refl
+
 pub carried-steps : (m : Motion) (ratio x y : ℕ) (c : Carried)
     → Carries m ratio (rowTaps m ratio y) (columnTaps m ratio x) c → mixedSteps c ≡ steps m ratio x y
-unfolding columnsOf steps step
-carried-steps m ratio x y c h = rw (h .holds .left, h .holds .right, h .share, h .first, second m ratio x)
+carried-steps m ratio x y c h = carried-by m ratio (rowTaps m ratio y) x c h ∙ by-rows m ratio x y
+
+-- a place in the grid and the entries around it
+pub around-place : (fx fy bx by : List ℕ) (g : Grid) (ratio x : ℕ) (p : Float) (t : Taps) → p ≡ heldTo (placeOf (laidOut g) ratio x) (g .width)
+    → t ≡ around p (g .width) → t ≡ columnTaps (motionOf fx fy bx by g) ratio x
+unfolding columnTaps taps
+around-place fx fy bx by g ratio x p t e is = rw (is, e)

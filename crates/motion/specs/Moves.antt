@@ -8,10 +8,10 @@ use lib.Ieee.{Float}
 use Rattle.rules.specs.declared.Taps.{Taps}
 use Rattle.rules.specs.declared.Steps.{Steps}
 use Rattle.rules.specs.Forms.{Motion, area}
-use Rattle.rules.specs.Literals.{1024·0}
-use Rattle.rules.specs.Float.{_⊖_, _⊗_, float, mix}
+use Rattle.rules.specs.Literals.{0·5, 1024·0}
+use Rattle.rules.specs.Float.{_⊖_, _⊗_, _⊘_, float, signed, mix}
 use Rattle.rules.specs.Reading.{after}
-use Rattle.rules.specs.Motion.{column}
+use Rattle.rules.specs.Motion.{columnTaps, column, step}
 use Rattle.motion.specs.declared.Carried.{Carried}
 use Rattle.motion.specs.declared.Grid.{Grid}
 
@@ -36,6 +36,10 @@ motionBy fx fy bx by gw gh bw bh ox oy pel =
 -- the same grid, whatever its fields are
 abbrev pub laidOut : Grid → Motion
 laidOut g = motionOf [] [] [] [] g
+
+-- a pixel column's place in the grid, before it is held to the entries' middles
+abbrev pub placeOf : Motion → (ratio x : ℕ) → Float
+placeOf m ratio x = (float x ⊗ float ratio ⊖ signed (m .origin .0)) ⊘ signed (m .block .0) ⊖ 0·5
 
 -- a field of a grid
 abbrev pub Covers : (grid : ℕ × ℕ) → (field : List ℕ) → Type 0
@@ -100,3 +104,9 @@ mixedSteps c =
       bx = mix (c .left .bx) (c .right .bx) (c .share);
       by = mix (c .left .by) (c .right .by) (c .share);
     }
+
+-- the steps of pixel column x between the rows of `down`
+unfoldable pub stepsBy : Motion → (ratio : ℕ) → (down : Taps) → (x : ℕ) → Steps
+stepsBy m ratio down x =
+    let s = step m ratio down (columnTaps m ratio x) in
+    record { fx = s (m .backward .0); fy = s (m .backward .1); bx = s (m .forward .0); by = s (m .forward .1) }

@@ -7,8 +7,8 @@ ghost use lib.IntN.{natAbs};
 ghost use Rattle.rules.specs.Literals.{1·0};
 ghost use Rattle.rules.specs.Float.{signed, float, _⊗_, _⊘_};
 ghost use Rattle.rules.specs.Motion.{taps as tapsOf, rowTaps, columnTaps};
-ghost use Rattle.sample.specs.Points.{Within};
-ghost use Rattle.motion.specs.Moves.{motionOf, laidOut, Covers, Laid, Moves, Rows, entryOf, columnAt, columnsOf, Holds, Carries, mixedSteps};
+ghost use Rattle.sample.specs.Points.{Held, Within};
+ghost use Rattle.motion.specs.Moves.{motionOf, laidOut, placeOf, Covers, Laid, Moves, Rows, entryOf, columnAt, columnsOf, Holds, Carries, mixedSteps};
 
 // What a motion's fields are laid out by: a grid of blocks, its origin, and steps in pel parts of a
 // pixel.
@@ -57,13 +57,21 @@ pub fn row_taps(grid: Grid, ratio: usize, y: usize) -> Taps
     taps(at / of_int(grid.block_height), grid.height)
 }
 
+// A pixel column's place in the grid, held to the entries' middles.
+pub fn column_place(grid: Grid, ratio: usize, x: usize) -> f32
+    requires { ⌜ Laid grid ratio × (x ≤ 4096) ⌝ }
+    ensures { λ r. ⌜ Held (placeOf (laidOut grid) ratio x) (grid .width) r ⌝ }
+{
+    let at = float::of_count(x) * float::of_size(ratio) - of_int(grid.origin_x);
+    sample::held(at / of_int(grid.block_width) - 0.5, grid.width)
+}
+
 // The two columns of the grid around a pixel column.
 pub fn column_taps(grid: Grid, ratio: usize, x: usize) -> Taps
     requires { ⌜ Laid grid ratio × (x ≤ 4096) ⌝ }
     ensures { λ r. ⌜ Within (columnTaps (laidOut grid) ratio x) (grid .width) r ⌝ }
 {
-    let at = float::of_size(x) * float::of_size(ratio) - of_int(grid.origin_x);
-    taps(at / of_int(grid.block_width), grid.width)
+    sample::between(column_place(grid, ratio, x), grid.width)
 }
 
 // One pixel of the plane in a field's steps.
@@ -159,8 +167,8 @@ pub fn around(
     }
 }
 
-// The columns around pixel column x: those of the pixel before it, where they are the same.
-pub fn carry(
+// The columns around a pixel between two: those of the pixel before it, where they are the same.
+pub fn carry_to(
     forward_x: &[u16],
     forward_y: &[u16],
     backward_x: &[u16],
@@ -169,12 +177,11 @@ pub fn carry(
     ratio: usize,
     down: Taps,
     previous: Carried,
-    x: usize,
+    across: Taps,
 ) -> Carried
-    requires { ⌜ Moves (now «forward_x») (now «forward_y») (now «backward_x») (now «backward_y») grid ratio × Rows (grid .height) down × Holds (motionOf (now «forward_x») (now «forward_y») (now «backward_x») (now «backward_y») grid) ratio down previous × (x ≤ 4096) ⌝ }
-    ensures { λ r. ⌜ Carries (motionOf (now («forward_x» .entry)) (now («forward_y» .entry)) (now («backward_x» .entry)) (now («backward_y» .entry)) grid) ratio down (columnTaps (motionOf (now («forward_x» .entry)) (now («forward_y» .entry)) (now («backward_x» .entry)) (now («backward_y» .entry)) grid) ratio x) r ⌝ }
+    requires { ⌜ Moves (now «forward_x») (now «forward_y») (now «backward_x») (now «backward_y») grid ratio × Rows (grid .height) down × Holds (motionOf (now «forward_x») (now «forward_y») (now «backward_x») (now «backward_y») grid) ratio down previous × (across .first < grid .width) ⌝ }
+    ensures { λ r. ⌜ Carries (motionOf (now («forward_x» .entry)) (now («forward_y» .entry)) (now («backward_x» .entry)) (now («backward_y» .entry)) grid) ratio down across r ⌝ }
 {
-    let across = column_taps(grid, ratio, x);
     if across.first == previous.first {
         let left = previous.left;
         let right = previous.right;
@@ -194,6 +201,34 @@ pub fn carry(
         ratio,
         down,
         across,
+    )
+}
+
+// The same of pixel column x.
+pub fn carry(
+    forward_x: &[u16],
+    forward_y: &[u16],
+    backward_x: &[u16],
+    backward_y: &[u16],
+    grid: Grid,
+    ratio: usize,
+    down: Taps,
+    previous: Carried,
+    x: usize,
+) -> Carried
+    requires { ⌜ Moves (now «forward_x») (now «forward_y») (now «backward_x») (now «backward_y») grid ratio × Rows (grid .height) down × Holds (motionOf (now «forward_x») (now «forward_y») (now «backward_x») (now «backward_y») grid) ratio down previous × (x ≤ 4096) ⌝ }
+    ensures { λ r. ⌜ Carries (motionOf (now («forward_x» .entry)) (now («forward_y» .entry)) (now («backward_x» .entry)) (now («backward_y» .entry)) grid) ratio down (columnTaps (motionOf (now («forward_x» .entry)) (now («forward_y» .entry)) (now («backward_x» .entry)) (now («backward_y» .entry)) grid) ratio x) r ⌝ }
+{
+    carry_to(
+        forward_x,
+        forward_y,
+        backward_x,
+        backward_y,
+        grid,
+        ratio,
+        down,
+        previous,
+        column_taps(grid, ratio, x),
     )
 }
 

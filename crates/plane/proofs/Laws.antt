@@ -1,4 +1,4 @@
--- The laws of a pass over a plane, stated once over any rule: what one dot, a run of pixels passed over, and one row add to what is painted and counted.
+-- The laws of a pass over a plane, stated once over any rule: what one pixel, a run of pixels passed over, and one row add to what is painted and counted.
 -- Assumes nothing.
 use mathlib.Core.Path.{_≡_, refl, sym, ap, _∙_}
 use mathlib.Core.Bool.{Bool, true, false, cond, _&&_}
@@ -10,30 +10,30 @@ use native.Mathlib.Nat.{mul-comm, le-div-iff-mul-le, mul-div-cancel, mul-mod-lef
 use borrow.Author.Tests.{leb-true, le-leb, eqb-true, eqb-false, eq-eqb, ne-eqb}
 use lib.Dec.{leb, eqb}
 use lib.ListN.{getD, set}
-use Rattle.plane.specs.declared.Dot.{Dot}
-use Rattle.plane.specs.declared.Dot.the-variants.{Keep, Put}
+use Rattle.plane.specs.declared.Change.{Change}
+use Rattle.plane.specs.declared.Change.the-variants.{Keep, Put}
 use Rattle.rules.specs.Forms.{Rule, turns, scanRow, scan, stroke, tally, painted, counted}
-use Rattle.plane.specs.Done.{dot, stamped, tallied, Stamped, RowDone, RowsDone}
+use Rattle.plane.specs.Done.{change, stamped, tallied, Stamped, RowDone, RowsDone}
 
--- ---- one dot
+-- ---- one pixel
 
-pub tallied-few : (d : Dot) (n : ℕ) → tallied d n ≤ n + 1
+pub tallied-few : (d : Change) (n : ℕ) → tallied d n ≤ n + 1
 tallied-few Keep n = omega arith
 tallied-few (Put b) n = omega arith
 
--- a dot is put, and counted, as its rule says
-stamped-dot : (rule : Rule) (pitch x y : ℕ) (bytes : List ℕ)
-    → stamped (dot rule x y (getD bytes (y * pitch + x) 0)) (y * pitch + x) bytes ≡ stroke rule pitch x y bytes
-unfolding dot stroke
-stamped-dot rule pitch x y bytes = go (rule .writes x y) (rule .byte x y (getD bytes (y * pitch + x) 0))
+-- a pixel is changed, and counted, as its rule says
+stamped-change : (rule : Rule) (pitch x y : ℕ) (bytes : List ℕ)
+    → stamped (change rule x y (getD bytes (y * pitch + x) 0)) (y * pitch + x) bytes ≡ stroke rule pitch x y bytes
+unfolding change stroke
+stamped-change rule pitch x y bytes = go (rule .writes x y) (rule .byte x y (getD bytes (y * pitch + x) 0))
   where
     go : (b : Bool) (v : ℕ) → stamped (cond b (Put v) Keep) (y * pitch + x) bytes ≡ cond b (set bytes (y * pitch + x) v) bytes
     go true v = refl
     go false v = refl
 
-tallied-dot : (rule : Rule) (x y old n : ℕ) → tallied (dot rule x y old) n ≡ tally rule x y n
-unfolding dot tally
-tallied-dot rule x y old n = go (rule .writes x y) (rule .byte x y old)
+tallied-change : (rule : Rule) (x y old n : ℕ) → tallied (change rule x y old) n ≡ tally rule x y n
+unfolding change tally
+tallied-change rule x y old n = go (rule .writes x y) (rule .byte x y old)
   where
     go : (b : Bool) (k : ℕ) → tallied (cond b (Put k) Keep) n ≡ cond b (n + 1) n
     go true k = refl
@@ -41,32 +41,32 @@ tallied-dot rule x y old n = go (rule .writes x y) (rule .byte x y old)
 
 -- ---- one row
 
--- no dot yet
+-- no pixel yet
 pub row-none : (rule : Rule) (pitch y count : ℕ) (bytes : List ℕ) → RowDone rule pitch y 0 count bytes bytes count
 unfolding turns scanRow
 row-none rule pitch y count bytes = record { bytes = refl; tally = refl; few = omega arith }
 
--- one dot more, of the byte that stands there now
-pub row-more : {rule : Rule} {pitch y x count : ℕ} {before bytes after : List ℕ} {n r : ℕ} {d : Dot}
-    → RowDone rule pitch y x count before bytes n → d ≡ dot rule x y (getD bytes (y * pitch + x) 0) → Stamped bytes (y * pitch + x) d n after r
+-- one pixel more, of the byte that stands there now
+pub row-more : {rule : Rule} {pitch y x count : ℕ} {before bytes after : List ℕ} {n r : ℕ} {d : Change}
+    → RowDone rule pitch y x count before bytes n → d ≡ change rule x y (getD bytes (y * pitch + x) 0) → Stamped bytes (y * pitch + x) d n after r
     → RowDone rule pitch y (x + 1) count before after r
 unfolding turns scanRow
 row-more {rule} {pitch} {y} {x} {bytes = bytes} {n = n} {d = d} done e s =
     record {
-      bytes = s .bytes ∙ ap (λ (k : Dot). stamped k (y * pitch + x) bytes) e ∙ stamped-dot rule pitch x y bytes ∙ simp (done .bytes, add-one);
-      tally = s .tally ∙ ap (λ (k : Dot). tallied k n) e ∙ tallied-dot rule x y (getD bytes (y * pitch + x) 0) n ∙ simp (done .tally, add-one);
+      bytes = s .bytes ∙ ap (λ (k : Change). stamped k (y * pitch + x) bytes) e ∙ stamped-change rule pitch x y bytes ∙ simp (done .bytes, add-one);
+      tally = s .tally ∙ ap (λ (k : Change). tallied k n) e ∙ tallied-change rule x y (getD bytes (y * pitch + x) 0) n ∙ simp (done .tally, add-one);
       few = omega (arith, tallied-few d n);
     }
 
-keep-dot : (rule : Rule) (x y old : ℕ) → rule .writes x y ≡ false → Keep ≡ dot rule x y old
-unfolding dot
-keep-dot rule x y old e = sym (simp e)
+keep-change : (rule : Rule) (x y old : ℕ) → rule .writes x y ≡ false → Keep ≡ change rule x y old
+unfolding change
+keep-change rule x y old e = sym (simp e)
 
 -- a pixel that the rule does not write is passed over: nothing to do
 pub row-skip : {rule : Rule} {pitch y x count : ℕ} {before bytes : List ℕ} {n : ℕ}
     → RowDone rule pitch y x count before bytes n → rule .writes x y ≡ false → RowDone rule pitch y (x + 1) count before bytes n
 row-skip {rule} {pitch} {y} {x} {bytes = bytes} done e =
-    row-more {d = Keep} done (keep-dot rule x y (getD bytes (y * pitch + x) 0) e) (record { bytes = refl; tally = refl })
+    row-more {d = Keep} done (keep-change rule x y (getD bytes (y * pitch + x) 0) e) (record { bytes = refl; tally = refl })
 
 -- and so is a run of them
 pub row-skip-run : {rule : Rule} {pitch y x count : ℕ} {before bytes : List ℕ} {n : ℕ} (more : ℕ)

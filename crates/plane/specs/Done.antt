@@ -1,29 +1,29 @@
--- What the loops of a pass leave: one dot, the first pixels of a row, the first rows.
+-- What the loops of a pass leave: one pixel, the first pixels of a row, the first rows.
 use mathlib.Core.Path.{_≡_}
 use mathlib.Core.Bool.{cond}
 use mathlib.Core.List.{List}
 use Prim.Native.Nat.{ℕ, _+_, _*_, _≤_}
 use lib.ListN.{set}
-use Rattle.plane.specs.declared.Dot.{Dot}
-use Rattle.plane.specs.declared.Dot.the-variants.{Keep, Put}
+use Rattle.plane.specs.declared.Change.{Change}
+use Rattle.plane.specs.declared.Change.the-variants.{Keep, Put}
 use Rattle.rules.specs.Forms.{Rule, scanRow, stroke, tally, painted, counted}
 
 -- what a rule does to one pixel
-unfoldable pub dot : Rule → (x y old : ℕ) → Dot
-dot rule x y old = cond (rule .writes x y) (Put (rule .byte x y old)) Keep
+unfoldable pub change : Rule → (x y old : ℕ) → Change
+change rule x y old = cond (rule .writes x y) (Put (rule .byte x y old)) Keep
 
--- the bytes with a dot at place k
-abbrev pub stamped : Dot → ℕ → List ℕ → List ℕ
+-- the bytes with a change at place k
+abbrev pub stamped : Change → ℕ → List ℕ → List ℕ
 stamped Keep k bytes = bytes
 stamped (Put b) k bytes = set bytes k b
 
--- a dot more, if it is a `Put`
-abbrev pub tallied : Dot → ℕ → ℕ
+-- one more, if it is a `Put`
+abbrev pub tallied : Change → ℕ → ℕ
 tallied Keep n = n
 tallied (Put b) n = n + 1
 
--- one dot is put and counted
-pub record Stamped (before : List ℕ) (k : ℕ) (d : Dot) (count : ℕ) (after : List ℕ) (r : ℕ) : Type 0 where
+-- one pixel is changed and counted
+pub record Stamped (before : List ℕ) (k : ℕ) (d : Change) (count : ℕ) (after : List ℕ) (r : ℕ) : Type 0 where
   pub bytes : after ≡ stamped d k before
   pub tally : r ≡ tallied d count
 

@@ -1,4 +1,4 @@
-// Byte planes: the tests of sizes, ratios, pitches, lengths and times, and one dot of a pass.
+// Byte planes: the tests of sizes, ratios, pitches, lengths and times, and one pixel of a pass.
 ghost use mathlib.Core.Path.{_≡_};
 ghost use mathlib.Core.Bool.{_&&_, _||_, not, cond};
 ghost use Prim.Native.Nat.{_+_, _-_, _*_, _/_, _%_, _<_, _≤_, _^_};
@@ -8,22 +8,22 @@ ghost use Rattle.rules.specs.Domain.{isSize, isRatio, isPitch, isTime};
 ghost use Rattle.plane.specs.Done.{Stamped};
 
 // What a rule does to one pixel: it keeps its byte, or a byte is put in its place.
-pub enum Dot {
+pub enum Change {
     Keep,
     Put(u8),
 }
 
-// One dot of a pass: puts it at place k of the output, and counts it.
-pub fn stamp(output: &mut [u8], k: usize, d: Dot, count: usize) -> usize
+// One pixel of a pass: changes place k of the output, and counts it.
+pub fn stamp(output: &mut [u8], k: usize, d: Change, count: usize) -> usize
     requires { ⌜ (k < length (now output)) × (count < 2 ^ 63) ⌝ }
     ensures { λ r. ⌜ Stamped (now (output .entry)) k d count (now (output .exit)) r ⌝ }
 {
     match d {
-        Dot::Put(b) => {
+        Change::Put(b) => {
             output[k] = b;
             count + 1
         }
-        Dot::Keep => count,
+        Change::Keep => count,
     }
 }
 

@@ -1,6 +1,8 @@
 // A layer's model at a point, by the columns and rows around it.
 use lent::Plan;
+use rules::Gain;
 use rules::Model;
+use rules::Offset;
 use rules::Taps;
 ghost use mathlib.Core.Path.{_≡_};
 ghost use Prim.Native.Nat.{_+_, _<_};
@@ -19,14 +21,11 @@ fn mix_models(m: Model, n: Model, t: f32) -> Model
 }
 
 // The model of a luma pixel: its gain is number k, and its offset stands `shift` after it.
-fn luma_texel(l: &[i16], k: usize, shift: usize) -> Model
+fn luma_at(l: &[i16], k: usize, shift: usize) -> Model
     requires { ⌜ k + shift < length (now l) ⌝ }
     ensures { λ r. ⌜ r ≡ lumaTexel (record { 0 = getD (now (l .entry)) k (pos 0) }) (record { 0 = getD (now (l .entry)) (k + shift) (pos 0) }) ⌝ }
 {
-    Model {
-        gain: float::of_stored(l[k]) / 4096.0,
-        offset: float::of_stored(l[k + shift]) / 64.0,
-    }
+    texel::luma_texel(Gain(l[k]), Offset(l[k + shift]))
 }
 
 // Two models of a row, mixed.
@@ -42,8 +41,8 @@ fn luma_row(
     requires { ⌜ LumaFits (now l) pitch shift width height × (across .first < width) × (across .second < width) × (y < height) ⌝ }
     ensures { λ r. ⌜ r ≡ rowOf (lumaAt (now (l .entry)) pitch shift) across y ⌝ }
 {
-    let m = luma_texel(l, plane::place(y, pitch, across.first), shift);
-    let n = luma_texel(l, plane::place(y, pitch, across.second), shift);
+    let m = luma_at(l, plane::place(y, pitch, across.first), shift);
+    let n = luma_at(l, plane::place(y, pitch, across.second), shift);
     mix_models(m, n, across.share)
 }
 
@@ -61,7 +60,7 @@ fn luma_by(
     ensures { λ r. ⌜ r ≡ pointOf (lumaAt (now (l .entry)) pitch shift) across down ⌝ }
 {
     if plane::both(across.share == 0.0, down.share == 0.0) {
-        return luma_texel(l, plane::place(down.first, pitch, across.first), shift);
+        return luma_at(l, plane::place(down.first, pitch, across.first), shift);
     }
     let upper = luma_row(l, pitch, shift, width, height, across, down.first);
     let lower = luma_row(l, pitch, shift, width, height, across, down.second);
@@ -82,8 +81,8 @@ fn chroma_row(
     ensures { λ r. ⌜ r ≡ rowOf (texelOf (layerOf p (now (l .entry)) (now (a .entry)) (now (b .entry)) (now (spare .entry))) (p .shape .plane)) across y ⌝ }
 {
     if p.span == 2 {
-        let m = texel::chroma(p, l, spare, a, spare, b, spare, across.first, y);
-        let n = texel::chroma(p, l, spare, a, spare, b, spare, across.second, y);
+        let m = texel::straight(p, false, 2, l, spare, a, spare, b, spare, across.first, y);
+        let n = texel::straight(p, false, 2, l, spare, a, spare, b, spare, across.second, y);
         return mix_models(m, n, across.share);
     }
     let m = texel::texel(p, l, spare, a, spare, b, spare, across.first, y);

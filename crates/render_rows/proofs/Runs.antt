@@ -5,15 +5,15 @@ use Prim.Native.Nat.{ℕ, _+_, _-_, _*_, _≤_, _<_}
 use native.Mathlib.Omega.{arith}
 use lib.ListN.{length, getD}
 use Rattle.rules.specs.Forms.{Rule}
-use Rattle.plane.specs.declared.Dot.{Dot}
-use Rattle.plane.specs.Done.{dot, Stamped, RowDone}
+use Rattle.plane.specs.declared.Change.{Change}
+use Rattle.plane.specs.Done.{change, Stamped, RowDone}
 use Rattle.plane.proofs.Laws.{row-none}
 use Rattle.lent.specs.declared.Plan.{Plan}
 use Rattle.layered_rows.specs.Rows.{RunAsks, RowAsks, RowOn}
 use Rattle.layered_rows.proofs.Cells.{run-none, run-more}
 
 -- one pixel
-pub run-one : {rule : Rule} {pitch y x : ℕ} {bytes after : List ℕ} {n r : ℕ} {d : Dot} → d ≡ dot rule x y (getD bytes (y * pitch + x) 0)
+pub run-one : {rule : Rule} {pitch y x : ℕ} {bytes after : List ℕ} {n r : ℕ} {d : Change} → d ≡ change rule x y (getD bytes (y * pitch + x) 0)
     → Stamped bytes (y * pitch + x) d n after r → RowOn rule pitch y x (x + 1) n bytes after r
 run-one e s = run-more (omega arith) (run-none _ _ _ _ _ _) e s
 

@@ -13,8 +13,8 @@ use Rattle.rules.specs.Float.{_⊖_, _⊗_, signed}
 use Rattle.rules.specs.Reading.{distance}
 use Rattle.rules.specs.Motion.{rowTaps}
 use Rattle.rules.specs.Render.{far, reach, renderRule}
-use Rattle.plane.specs.declared.Dot.{Dot}
-use Rattle.plane.specs.declared.Dot.the-variants.{Keep, Put}
+use Rattle.plane.specs.declared.Change.{Change}
+use Rattle.plane.specs.declared.Change.the-variants.{Keep, Put}
 use Rattle.sample.specs.Points.{Within}
 use Rattle.motion.specs.declared.Carried.{Carried}
 use Rattle.motion.specs.Moves.{motionOf, Moves, Holds}
@@ -47,8 +47,8 @@ pub record Works (j : Job) (l a b : List ℤ) (first second forwardX forwardY ba
   pub far-is : j .far ≡ far (motionIn j forwardX forwardY backwardX backwardY)
 
 -- what is done to a pixel that moves by these steps, and whose gap `far` makes up for
-unfoldable pub dotBy : Layer → (plane : ℕ) → Frames → (ratio : ℕ) → Steps → (gap : Float) → (algo : ℤ) → (x y : ℕ) → Dot
-dotBy l plane f ratio s gap algo x y = cond (isWithin gap (reach ratio s)) (Put (byteBy l plane f s algo x y)) Keep
+unfoldable pub changeBy : Layer → (plane : ℕ) → Frames → (ratio : ℕ) → Steps → (gap : Float) → (algo : ℤ) → (x y : ℕ) → Change
+changeBy l plane f ratio s gap algo x y = cond (isWithin gap (reach ratio s)) (Put (byteBy l plane f s algo x y)) Keep
 
 -- the gap of a stored distance
 abbrev pub gapOf : ℤ → Float

@@ -2,7 +2,7 @@
 use lent::Plan;
 use motion::Carried;
 use motion::Grid;
-use plane::Dot;
+use plane::Change;
 use rules::Steps;
 use rules::Taps;
 ghost use mathlib.Core.Path.{_≡_};
@@ -13,7 +13,7 @@ ghost use Rattle.lent.specs.Lent.{Inside};
 ghost use Rattle.cell.specs.Cells.{CellEnd};
 ghost use Rattle.moved.specs.Shown.{Framed};
 ghost use Rattle.layered_rows.specs.Rows.{RunAsks, RowAsks, RowsAsk};
-ghost use Rattle.render_rows.specs.Jobs.{layerIn, framesIn, motionIn, ruleIn, Works, dotBy, Near, Carrying, RunDone};
+ghost use Rattle.render_rows.specs.Jobs.{layerIn, framesIn, motionIn, ruleIn, Works, changeBy, Near, Carrying, RunDone};
 
 // What a call is lent besides slices, and what follows from it.
 pub struct Job {
@@ -34,7 +34,7 @@ pub struct Run {
 }
 
 // What is done to a pixel that moves by these steps.
-fn render_dot(
+fn render_change(
     j: Job,
     l: &[i16],
     a: &[i16],
@@ -45,14 +45,14 @@ fn render_dot(
     d: i16,
     x: usize,
     y: usize,
-) -> Dot
+) -> Change
     requires { ⌜ Framed (j .plan) (now l) (now a) (now b) (now first) (j .«first_pitch») (now second) (j .«second_pitch») × Inside (j .plan) x y × (d ≡ distanceOf (layerIn j (now l) (now a) (now b) (now first)) (j .plan .shape .plane) x y) ⌝ }
-    ensures { λ r. ⌜ r ≡ dotBy (layerIn j (now (l .entry)) (now (a .entry)) (now (b .entry)) (now (first .entry))) (j .plan .shape .plane) (framesIn j (now (first .entry)) (now (second .entry))) (j .plan .span) s (gapOf (layerIn j (now (l .entry)) (now (a .entry)) (now (b .entry)) (now (first .entry))) (j .plan .shape .plane) x y) (j .algo) x y ⌝ }
+    ensures { λ r. ⌜ r ≡ changeBy (layerIn j (now (l .entry)) (now (a .entry)) (now (b .entry)) (now (first .entry))) (j .plan .shape .plane) (framesIn j (now (first .entry)) (now (second .entry))) (j .plan .span) s (gapOf (layerIn j (now (l .entry)) (now (a .entry)) (now (b .entry)) (now (first .entry))) (j .plan .shape .plane) x y) (j .algo) x y ⌝ }
 {
     let p = j.plan;
     if choice::reached(cell::gap(d), p.span, s) {
         let near = cell::near(d);
-        Dot::Put(moved::composed(
+        Change::Put(moved::composed(
             p,
             l,
             a,
@@ -69,7 +69,7 @@ fn render_dot(
             y,
         ))
     } else {
-        Dot::Keep
+        Change::Keep
     }
 }
 
@@ -108,9 +108,9 @@ fn render_pixel(
         x,
     );
     let s = choice::timed(j.time, motion::steps_of(carried));
-    let dot = render_dot(j, l, a, b, first, second, s, d, x, y);
+    let change = render_change(j, l, a, b, first, second, s, d, x, y);
     let k = plane::place(y, j.output_pitch, x);
-    let count = plane::stamp(output, k, dot, run.count);
+    let count = plane::stamp(output, k, change, run.count);
     Run { count, carried }
 }
 

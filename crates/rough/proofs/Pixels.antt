@@ -11,15 +11,12 @@ use Rattle.rules.specs.declared.Found.the-variants.{At, Nothing}
 use Rattle.rules.specs.declared.Model.{Model}
 use Rattle.rules.specs.declared.Trial.{Trial}
 use Rattle.rules.specs.Forms.{Parts}
-use Rattle.rules.specs.Literals.{0·0, 1·0}
 use Rattle.rules.specs.Window.{window, chromaAt, fitted}
 use Rattle.total.specs.declared.Counts.{Counts}
 use Rattle.offsets.specs.declared.Grid.{Grid}
 use Rattle.offsets.specs.Grid.{Formed}
 use Rattle.laws.proofs.Lists.{place-in}
-use Rattle.window.specs.declared.Offsets.{Offsets}
-use Rattle.window.specs.Lent.{offsetsOf}
-use Rattle.rough.specs.Search.{foundPut, search, searchAt, Searching}
+use Rattle.rough.specs.Search.{passedOver, foundPut, search, Searching}
 
 -- the chroma pixel of column x and row y
 module _ (g : Grid) (f : Formed g) (x y : ℕ) (left : x < g .width) (above : y < g .height) where
@@ -38,20 +35,16 @@ module _ (g : Grid) (f : Formed g) (x y : ℕ) (left : x < g .width) (above : y 
   pub pixel-in : y * g .width + x < g .width * g .height
   pixel-in = place-in above left
 
--- what is left at a pixel: (1, 0), or the model that is found
-module _ (parts : Parts) (g : Grid) (f : Formed g) (limit evidence : Float) (strict : Bool) (x y : ℕ) (left : x < g .width) (above : y < g .height)
-    (at : ℕ) (at-is : at ≡ y * g .width + x) (s after : List Float × List ℕ) where
-  pub none-found : window parts at limit evidence strict ≡ Nothing
-      → after ≡ foundPut at (record { gain = 1·0; offset = 0·0 }) (record { first = 0·0; second = 0·0 }) 0 s → after ≡ searchAt parts g limit evidence strict x y s
-  unfolding search fitted
+-- a pixel where nothing is found, and one where a model is
+module _ (parts : Parts) (g : Grid) (limit evidence : Float) (strict : Bool) (at here : ℕ) (at-is : at ≡ here) (s after : List Float × List ℕ) where
+  pub none-found : window parts at limit evidence strict ≡ Nothing → after ≡ passedOver at s → after ≡ search parts g limit evidence strict here s
+  unfolding search foundPut fitted
   none-found e put = rw (← at-is) (put ∙ sym (rw e))
 
-  pub one-found : (m : Model) (trial : Trial) (spot : ℕ) (o : Offsets) → window parts at limit evidence strict ≡ At m trial
-      → spot ≡ y / g .ratio * g .half + x / g .ratio → o ≡ offsetsOf parts trial (m .gain) spot → after ≡ foundPut at m o 1 s → after ≡ searchAt parts g limit evidence strict x y s
-  unfolding search fitted
-  one-found m trial spot o e q h put =
-      let place : chromaAt (g .width) (g .ratio) at ≡ spot = rw at-is (spot-is g f x y left above ∙ sym q) in
-      rw (← at-is) (put ∙ sym (rw (e, place, h)))
+  pub one-found : (m : Model) (trial : Trial) → window parts at limit evidence strict ≡ At m trial → after ≡ foundPut parts g here (At m trial) s
+      → after ≡ search parts g limit evidence strict here s
+  unfolding search
+  one-found m trial e put = put ∙ sym (rw (← at-is, e))
 
 -- slices of the same lengths
 pub still-searching : {c : Counts} {p p1 p2 o o1 o2 n n1 n2 : List Float} {g : Grid} {models₀ models : List Float} {kept₀ kept : List ℕ}

@@ -21,7 +21,7 @@ use Rattle.laws.proofs.Lists.{table-same}
 use Rattle.table.proofs.Models.{put-same, put-other}
 use Rattle.table.proofs.Turns.{scan-flat}
 use Rattle.table.proofs.Laws.{last}
-use Rattle.rough.specs.Search.{flagOf, search, searchAt, Searched}
+use Rattle.rough.specs.Search.{flagOf, foundPut, search, searchAt, Searched}
 
 -- a kept byte of 0: nothing was found
 none : (parts : Parts) (spot : ℕ) (f : Found) → flagOf f ≡ 0 → fitted parts spot f ≡ unfitted
@@ -43,7 +43,7 @@ module _ (parts : Parts) (g : Grid) (limit evidence : Float) (strict : Bool) (mo
     flags-are : (k : ℕ) → k < n → getD (s .1) k 0 ≡ flagOf (foundAt k)
 
   more : (n : ℕ) (s : List Float × List ℕ) → Past n s → n < length kept → Past (suc n) (search parts g limit evidence strict n s)
-  unfolding search
+  unfolding search foundPut
   more n s past inside =
       let m = fittedAt n in
       let same = put-same (s .0) n (m .model .gain) (m .model .offset) (m .chroma .0) (m .chroma .1) (omega (arith, past .models-long)) in

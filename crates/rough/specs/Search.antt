@@ -7,13 +7,11 @@ use lib.ListN.{length, set}
 use lib.Ieee.{Float}
 use Rattle.rules.specs.declared.Found.{Found}
 use Rattle.rules.specs.declared.Found.the-variants.{At, Nothing}
-use Rattle.rules.specs.declared.Model.{Model}
 use Rattle.rules.specs.Forms.{Parts, tabulate}
-use Rattle.rules.specs.Model.{Fitted}
+use Rattle.rules.specs.Model.{Fitted, unfitted}
 use Rattle.rules.specs.Window.{window, chromaAt, fitted}
 use Rattle.rules.specs.Assembly.{modelSlice}
 use Rattle.total.specs.declared.Counts.{Counts}
-use Rattle.window.specs.declared.Offsets.{Offsets}
 use Rattle.window.specs.Lent.{Ready}
 use Rattle.offsets.specs.declared.Grid.{Grid}
 use Rattle.offsets.specs.Grid.{Formed, modelsLong}
@@ -25,19 +23,21 @@ abbrev pub flagOf : Found → ℕ
 flagOf (At m trial) = 1
 flagOf Nothing = 0
 
--- a pixel's model, its chroma offsets and its kept byte
-abbrev pub foundPut : (at : ℕ) → Model → Offsets → (flag : ℕ) → List Float × List ℕ → List Float × List ℕ
-foundPut at m o flag s = (modelPut (s .0) at (m .gain) (m .offset) (o .first) (o .second), set (s .1) at flag)
-
 -- a model slice with a fitted pixel put into it
 abbrev pub fittedPut : List Float → (at : ℕ) → Fitted → List Float
 fittedPut s at m = modelPut s at (m .model .gain) (m .model .offset) (m .chroma .0) (m .chroma .1)
 
+-- "passed over as (1, 0)": a pixel where nothing is found
+abbrev pub passedOver : (at : ℕ) → List Float × List ℕ → List Float × List ℕ
+passedOver at s = (fittedPut (s .0) at unfitted, set (s .1) at 0)
+
+-- a pixel with what is found there: its model, its chroma offsets and its kept byte
+unfoldable pub foundPut : Parts → Grid → (at : ℕ) → Found → List Float × List ℕ → List Float × List ℕ
+foundPut parts g at found s = (fittedPut (s .0) at (fitted parts (chromaAt (g .width) (g .ratio) at) found), set (s .1) at (flagOf found))
+
 -- one pixel
 unfoldable pub search : Parts → Grid → (limit evidence : Float) → (strict : Bool) → (at : ℕ) → List Float × List ℕ → List Float × List ℕ
-search parts g limit evidence strict at s =
-    let found = window parts at limit evidence strict in
-    (fittedPut (s .0) at (fitted parts (chromaAt (g .width) (g .ratio) at) found), set (s .1) at (flagOf found))
+search parts g limit evidence strict at = foundPut parts g at (window parts at limit evidence strict)
 
 -- by its column and row
 abbrev pub searchAt : Parts → Grid → (limit evidence : Float) → (strict : Bool) → (x y : ℕ) → List Float × List ℕ → List Float × List ℕ

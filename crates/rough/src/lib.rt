@@ -2,26 +2,27 @@
 use offsets::Grid;
 use rules::Found;
 use rules::Model;
+use rules::Trial;
 use total::Counts;
-use window::Offsets;
 ghost use mathlib.Core.Path.{_≡_};
-ghost use Prim.Native.Nat.{_+_, _*_, _/_, _<_, _≤_};
+ghost use Prim.Native.Nat.{_+_, _*_, _<_, _≤_};
 ghost use lib.ListN.{length};
+ghost use Rattle.rules.specs.declared.Found.the-variants.{At};
 ghost use Rattle.rules.specs.Forms.{scanRow};
 ghost use Rattle.window.specs.Lent.{lent};
-ghost use Rattle.rough.specs.Search.{foundPut, searchAt, Searching, Searched};
+ghost use Rattle.rough.specs.Search.{passedOver, foundPut, searchAt, Searching, Searched};
 
-// A found model or (1, 0), and 1 or 0 as the kept byte.
-fn put_found(models: &mut [f32], kept: &mut [u8], at: usize, m: Model, o: Offsets, flag: u8)
+// "passed over as (1, 0)", with 0 as the kept byte.
+fn pass_over(models: &mut [f32], kept: &mut [u8], at: usize)
     requires { ⌜ (at * 4 + 4 ≤ length (now models)) × (at < length (now kept)) ⌝ }
-    ensures { λ _. ⌜ (now (models .exit), now (kept .exit)) ≡ foundPut at m o flag (now (models .entry), now (kept .entry)) ⌝ }
+    ensures { λ _. ⌜ (now (models .exit), now (kept .exit)) ≡ passedOver at (now (models .entry), now (kept .entry)) ⌝ }
 {
-    table::put_model(models, at, m.gain, m.offset, o.first, o.second);
-    kept[at] = flag;
+    table::put_model(models, at, 1.0, 0.0, 0.0, 0.0);
+    kept[at] = 0;
 }
 
-// A pixel: "where nothing is found the pixel is passed over as (1, 0)".
-fn fit_pixel(
+// A found model with its chroma offsets, and 1 as the kept byte.
+fn put_found(
     models: &mut [f32],
     kept: &mut [u8],
     previous: &[f32],
@@ -35,43 +36,14 @@ fn fit_pixel(
     next2: &[f32],
     counts: Counts,
     g: Grid,
-    limit: f32,
-    evidence: f32,
-    strict: bool,
+    model: Model,
+    trial: Trial,
     x: usize,
     y: usize,
 )
     requires { ⌜ Searching counts (now previous) (now previous1) (now previous2) (now own) (now own1) (now own2) (now next) (now next1) (now next2) g (now models) (now kept) × (x < g .width) × (y < g .height) ⌝ }
-    ensures { λ _. ⌜ (now (models .exit), now (kept .exit)) ≡ searchAt (lent (now (previous .entry)) (now (previous1 .entry)) (now (previous2 .entry)) (now (own .entry)) (now (own1 .entry)) (now (own2 .entry)) (now (next .entry)) (now (next1 .entry)) (now (next2 .entry)) counts) g limit evidence strict x y (now (models .entry), now (kept .entry)) ⌝ }
+    ensures { λ _. ⌜ (now (models .exit), now (kept .exit)) ≡ foundPut (lent (now (previous .entry)) (now (previous1 .entry)) (now (previous2 .entry)) (now (own .entry)) (now (own1 .entry)) (now (own2 .entry)) (now (next .entry)) (now (next1 .entry)) (now (next2 .entry)) counts) g (y * g .width + x) (At model trial) (now (models .entry), now (kept .entry)) ⌝ }
 {
-    let at = plane::place(y, g.width, x);
-    let Found::At(model, trial) = window::window(
-        previous,
-        previous1,
-        previous2,
-        own,
-        own1,
-        own2,
-        next,
-        next1,
-        next2,
-        counts,
-        at,
-        limit,
-        evidence,
-        strict,
-    ) else {
-        let plain = Model {
-            gain: 1.0,
-            offset: 0.0,
-        };
-        let none = Offsets {
-            first: 0.0,
-            second: 0.0,
-        };
-        put_found(models, kept, at, plain, none, 0);
-        return;
-    };
     let spot = plane::place(y / g.ratio, g.half, x / g.ratio);
     let offsets = window::offsets_of(
         previous,
@@ -88,10 +60,19 @@ fn fit_pixel(
         model.gain,
         spot,
     );
-    put_found(models, kept, at, model, offsets, 1);
+    let at = plane::place(y, g.width, x);
+    table::put_model(
+        models,
+        at,
+        model.gain,
+        model.offset,
+        offsets.first,
+        offsets.second,
+    );
+    kept[at] = 1;
 }
 
-// A row.
+// A row: "where nothing is found the pixel is passed over as (1, 0)".
 fn fit_row(
     models: &mut [f32],
     kept: &mut [u8],
@@ -117,7 +98,28 @@ fn fit_row(
     let width = g.width;
     let mut x = 0;
     while x < width {
-        fit_pixel(
+        let at = plane::place(y, width, x);
+        let Found::At(model, trial) = window::window(
+            previous,
+            previous1,
+            previous2,
+            own,
+            own1,
+            own2,
+            next,
+            next1,
+            next2,
+            counts,
+            at,
+            limit,
+            evidence,
+            strict,
+        ) else {
+            pass_over(models, kept, at);
+            x += 1;
+            continue;
+        };
+        put_found(
             models,
             kept,
             previous,
@@ -131,9 +133,8 @@ fn fit_row(
             next2,
             counts,
             g,
-            limit,
-            evidence,
-            strict,
+            model,
+            trial,
             x,
             y,
         );

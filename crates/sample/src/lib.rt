@@ -5,7 +5,7 @@ ghost use mathlib.Core.Bool.{cond};
 ghost use Prim.Native.Nat.{_+_, _-_, _*_, _<_, _≤_, min};
 ghost use lib.ListN.{length};
 ghost use Rattle.rules.specs.Float.{float, cut, _⊕_};
-ghost use Rattle.rules.specs.Reading.{at as atOf, sample as sampleOf};
+ghost use Rattle.rules.specs.Reading.{at as atOf};
 ghost use Rattle.sample.specs.Points.{positiveOf, PlaneFits, Held, Within, around, sampledRow, sampledAt};
 
 // x where it is above 0, and 0 for a NaN too.
@@ -23,14 +23,14 @@ fn one_if(b: bool) -> u32
 }
 
 // The whole number below a point of a plane: 2^23 added and taken off leaves that number, or one more.
-fn whole(x: f32) -> usize
+pub fn whole(x: f32) -> u32
     requires { ⌜ cut x ≤ 4096 ⌝ }
     ensures { λ r. ⌜ r ≡ cut x ⌝ }
 {
     let q = positive(x);
     let w = q + 8388608.0 - 8388608.0;
     let n = w as u32;
-    (n - one_if(q < w)) as usize
+    n - one_if(q < w)
 }
 
 // The column or row after k, the last repeated.
@@ -59,17 +59,24 @@ pub fn shifted(x: usize, d: f32, size: usize) -> f32
     held(float::of_size(x) + d, size)
 }
 
-// The two columns or rows around a point of the plane. The point is cut once.
-pub fn between(x: f32, size: usize) -> Taps
-    requires { ⌜ (cut x < size) × (size ≤ 4096) ⌝ }
+// The two columns or rows around a point of the plane, the first of which is known.
+pub fn taps_at(x: f32, first: usize, size: usize) -> Taps
+    requires { ⌜ (first ≡ cut x) × (first < size) × (size ≤ 4096) ⌝ }
     ensures { λ r. ⌜ Within (around x size) size r ⌝ }
 {
-    let first = whole(x);
     Taps {
         first,
         second: after(first, size),
         share: x - float::of_size(first),
     }
+}
+
+// The two columns or rows around a point of the plane. The point is cut once.
+pub fn between(x: f32, size: usize) -> Taps
+    requires { ⌜ (cut x < size) × (size ≤ 4096) ⌝ }
+    ensures { λ r. ⌜ Within (around x size) size r ⌝ }
+{
+    taps_at(x, whole(x) as usize, size)
 }
 
 // A byte of a plane as a float.
@@ -106,14 +113,4 @@ pub fn sample_at(
     let upper = sample_row(raw, pitch, across, down.first, width, height);
     let lower = sample_row(raw, pitch, across, down.second, width, height);
     float::mix(upper, lower, down.share)
-}
-
-// The plane at a point of it.
-pub fn sample(raw: &[u8], pitch: usize, x: f32, y: f32, width: usize, height: usize) -> f32
-    requires { ⌜ PlaneFits (now raw) pitch width height × (cut x < width) × (cut y < height) ⌝ }
-    ensures { λ r. ⌜ r ≡ sampleOf (record { bytes = now (raw .entry); pitch = pitch }) x y (width, height) ⌝ }
-{
-    let across = between(x, width);
-    let down = between(y, height);
-    sample_at(raw, pitch, across, down, width, height)
 }

@@ -10,12 +10,12 @@ use lib.IntN.{ℤ, pos, negsuc, natAbs, _+ℤ_}
 use lib.Signed.{mag, natAbs-le}
 use lib.ListN.{getD}
 use lib.Ieee.{binary32, ofBits, ofInt}
-use mir.Syntax.{w32}
-use mir.Val.{SFits}
+use mir.Syntax.{w16, w32}
+use mir.Val.{SFits, toZ, ofZ}
 use Rattle.rules.specs.Forms.{turns}
 use Rattle.rules.specs.Literals.{0·0}
 use Rattle.rules.specs.Float.{signed}
-use Rattle.laws.proofs.Signed.{sum-size}
+use Rattle.laws.proofs.Signed.{back, sum-size}
 use Rattle.laws.proofs.Whole.{add-int}
 use Rattle.stored.specs.Stored.{Added, rowTotal, blockTotal, RowSummed, BlockSummed}
 
@@ -28,8 +28,13 @@ mag-small (negsuc n) = omega arith
 pub fits-sum : (t e : ℤ) → natAbs t ≤ 524288 → mag e < 2 ^ 15 → SFits w32 (t +ℤ e)
 fits-sum t e h k = record { sfits = omega (arith, sum-size t e, mag-small (t +ℤ e), natAbs-le e k) }
 
-pub fits-wide : (e : ℤ) → mag e < 2 ^ 15 → SFits w32 e
-fits-wide e h = record { sfits = omega arith }
+-- a stored number, made wider
+module _ (e : ℤ) (h : mag e < 2 ^ 15) where
+  pub wide-fits : SFits w32 (toZ w16 (ofZ w16 e))
+  wide-fits = rw (back w16 e h) (record { sfits = omega arith })
+
+  pub wide-is : toZ w32 (ofZ w32 (toZ w16 (ofZ w16 e))) ≡ e
+  wide-is = rw (back w16 e h) (back w32 e (omega arith))
 
 pub added-is : {luma : List ℤ} {k : ℕ} (total e : ℤ) → natAbs total ≤ 524288 → mag e < 2 ^ 15 → e ≡ getD luma k (pos 0) → Added luma k total (total +ℤ e)
 added-is total e h small is =

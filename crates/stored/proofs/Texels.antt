@@ -12,14 +12,14 @@ use lib.Signed.{mag, natAbs-le}
 use lib.ListN.{getD}
 use lib.Ieee.{binary32, mul, ofBits, ofInt}
 use Rattle.rules.specs.Forms.{Layer, planeRatio, turns, scanRow, scan}
-use Rattle.rules.specs.Literals.{0·0, 64·0, 4096·0}
-use Rattle.rules.specs.Float.{_⊕_, _⊗_, _⊘_, float, signed}
-use Rattle.rules.specs.Reading.{lumaGain, lumaOffset, storedChroma, gainTotal, lumaTexel, chromaTexel, texel}
+use Rattle.rules.specs.Literals.{0·0, 4096·0}
+use Rattle.rules.specs.Float.{_⊕_, _⊗_, float, signed}
+use Rattle.rules.specs.Reading.{gainTotal, lumaTexel, chromaTexel, texel}
 use Rattle.laws.proofs.Whole.{add-int}
 use Rattle.lent.specs.declared.Plan.{Plan}
 use Rattle.lent.specs.Lent.{Planned}
 use Rattle.lent.proofs.Plans.{span-is}
-use Rattle.stored.specs.Stored.{rowTotal, blockTotal, BlockSummed, gainBy, Summed, offsetAt}
+use Rattle.stored.specs.Stored.{rowTotal, blockTotal, BlockSummed, gainBy, Summed}
 use Rattle.stored.proofs.Sums.{zero-is}
 
 -- ---- a block
@@ -80,15 +80,3 @@ one-is l plane span x y z e one small is = rw (one, is) (go (eqb plane 0) refl (
         → texel l plane x y .gain ≡ gainBy 1 (getD (l .luma) (y * l .pitch .0 + x) (pos 0))
     go true t e = luma-gain l plane x y t
     go false t e = chroma-gain l plane x y t e (rw is at small)
-
--- ---- the offset
-
-pub offset-is : (l : Layer) (plane x y : ℕ) → texel l plane x y .offset ≡ signed (offsetAt l plane x y .0) ⊘ 64·0
-unfolding texel lumaTexel chromaTexel
-offset-is l plane x y = go (eqb plane 0)
-  where
-    go : (t : Bool)
-        → cond t (lumaTexel (lumaGain l x y) (lumaOffset l x y)) (chromaTexel (l .ratio) (gainTotal l x y) (storedChroma l plane x y)) .offset
-        ≡ signed (cond t (lumaOffset l x y) (storedChroma l plane x y) .0) ⊘ 64·0
-    go true = refl
-    go false = refl

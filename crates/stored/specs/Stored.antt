@@ -1,17 +1,14 @@
 -- The stored numbers of a pixel, as whole numbers: what their readers ask and give.
-use mathlib.Core.Bool.{cond}
 use mathlib.Core.Path.{_≡_}
 use mathlib.Core.List.{List}
 use Prim.Native.Nat.{ℕ, _+_, _*_, _≤_}
-use lib.Dec.{eqb}
 use lib.IntN.{ℤ, pos, natAbs}
 use lib.ListN.{length, getD}
 use lib.Ieee.{Float}
-use Rattle.rules.specs.declared.Offset.{Offset}
-use Rattle.rules.specs.Forms.{Layer, turns}
+use Rattle.rules.specs.Forms.{turns}
 use Rattle.rules.specs.Literals.{0·0, 4096·0}
 use Rattle.rules.specs.Float.{_⊕_, _⊗_, _⊘_, float, signed}
-use Rattle.rules.specs.Reading.{lumaOffset, storedChroma, texel}
+use Rattle.rules.specs.Reading.{texel}
 use Rattle.lent.specs.declared.Plan.{Plan}
 use Rattle.lent.specs.Lent.{holding}
 
@@ -53,7 +50,3 @@ gainBy span total = signed total ⊘ (float (span * span) ⊗ 4096·0)
 pub record Summed (p : Plan) (luma : List ℤ) (x y : ℕ) (r : ℤ) : Type 0 where
   pub is : (first second : List ℤ) → texel (holding (p .shape) luma first second) (p .shape .plane) x y .gain ≡ gainBy (p .span) r
   pub small : natAbs r ≤ 524288
-
--- the stored offset of a pixel
-abbrev pub offsetAt : Layer → (plane x y : ℕ) → Offset
-offsetAt l plane x y = cond (eqb plane 0) (lumaOffset l x y) (storedChroma l plane x y)

@@ -1,21 +1,30 @@
 // The stored numbers of a pixel's model: the total of its gains, and its offset.
 use lent::Plan;
+use rules::Gain;
 use rules::Offset;
 ghost use mathlib.Core.Path.{_≡_};
 ghost use mathlib.Core.List.{[]};
 ghost use Prim.Native.Nat.{_+_, _<_, _≤_};
-ghost use lib.IntN.{natAbs};
-ghost use lib.ListN.{length};
-ghost use Rattle.rules.specs.Reading.{lumaOffset, storedChroma};
-ghost use Rattle.lent.specs.Lent.{lent, lay, holding, lumaLong, chromaLong, Planned, Sound, Inside};
-ghost use Rattle.stored.specs.Stored.{RowFits, Added, RowSummed, BlockSummed, Summed, offsetAt};
+ghost use lib.IntN.{pos, natAbs};
+ghost use lib.ListN.{length, getD};
+ghost use Rattle.rules.specs.Reading.{lumaGain, lumaOffset, storedChroma};
+ghost use Rattle.lent.specs.Lent.{lent, holding, lumaLong, chromaLong, Planned, Inside};
+ghost use Rattle.stored.specs.Stored.{RowFits, Added, RowSummed, BlockSummed, Summed};
+
+// The gain that is number k of the luma slice.
+fn gain(packed: bool, l: &[i16], lb: &[u8], k: usize) -> Gain
+    requires { ⌜ k < length (lent packed (now l) (now lb)) ⌝ }
+    ensures { λ r. ⌜ r ≡ record { 0 = getD (lent packed (now (l .entry)) (now (lb .entry))) k (pos 0) } ⌝ }
+{
+    Gain(lent::entry(packed, l, lb, k))
+}
 
 // A total with one gain more.
 fn added(packed: bool, l: &[i16], lb: &[u8], k: usize, total: i32) -> i32
     requires { ⌜ (k < length (lent packed (now l) (now lb))) × (natAbs total ≤ 524288) ⌝ }
     ensures { λ r. ⌜ Added (lent packed (now (l .entry)) (now (lb .entry))) k total r ⌝ }
 {
-    total + lent::entry(packed, l, lb, k) as i32
+    total + gain(packed, l, lb, k).0 as i32
 }
 
 // A row of a pixel's gains, added to a total.
@@ -60,21 +69,41 @@ fn gain_two(
     added(packed, l, lb, k + 1, one)
 }
 
+// The gain of a pixel that has one.
+pub fn luma_gain(p: Plan, l: &[i16], lb: &[u8], x: usize, y: usize) -> Gain
+    requires { ⌜ Planned p × Inside p x y × lumaLong p (lent (p .shape .packed) (now l) (now lb)) × (p .span ≡ 1) ⌝ }
+    ensures { λ r. ⌜ r ≡ lumaGain (holding (p .shape) (lent (p .shape .packed) (now (l .entry)) (now (lb .entry))) [] []) x y ⌝ }
+{
+    gain(p.shape.packed, l, lb, plane::place(y, p.shape.luma, x))
+}
+
 // The total of the gains of a pixel that has one.
-pub fn one(p: Plan, l: &[i16], lb: &[u8], x: usize, y: usize) -> i32
+fn one(p: Plan, l: &[i16], lb: &[u8], x: usize, y: usize) -> i32
     requires { ⌜ Planned p × Inside p x y × lumaLong p (lent (p .shape .packed) (now l) (now lb)) × (p .span ≡ 1) ⌝ }
     ensures { λ r. ⌜ Summed p (lent (p .shape .packed) (now (l .entry)) (now (lb .entry))) x y r ⌝ }
 {
-    lent::entry(p.shape.packed, l, lb, plane::place(y, p.shape.luma, x)) as i32
+    luma_gain(p, l, lb, x, y).0 as i32
 }
 
 // And of one that has two by two.
-pub fn four(p: Plan, l: &[i16], lb: &[u8], x: usize, y: usize) -> i32
+fn four(p: Plan, l: &[i16], lb: &[u8], x: usize, y: usize) -> i32
     requires { ⌜ Planned p × Inside p x y × lumaLong p (lent (p .shape .packed) (now l) (now lb)) × (p .span ≡ 2) ⌝ }
     ensures { λ r. ⌜ Summed p (lent (p .shape .packed) (now (l .entry)) (now (lb .entry))) x y r ⌝ }
 {
     let t = gain_two(p.shape.packed, l, lb, y * 2, p.shape.luma, x, 0);
     gain_two(p.shape.packed, l, lb, y * 2 + 1, p.shape.luma, x, t)
+}
+
+// And of either, by a span that is given beside the plan, so that it can be a constant.
+pub fn one_or_four(p: Plan, span: usize, l: &[i16], lb: &[u8], x: usize, y: usize) -> i32
+    requires { ⌜ Planned p × Inside p x y × lumaLong p (lent (p .shape .packed) (now l) (now lb)) × (p .span ≡ span) × (span ≤ 2) ⌝ }
+    ensures { λ r. ⌜ Summed p (lent (p .shape .packed) (now (l .entry)) (now (lb .entry))) x y r ⌝ }
+{
+    if span == 1 {
+        one(p, l, lb, x, y)
+    } else {
+        four(p, l, lb, x, y)
+    }
 }
 
 // The gains of a pixel, row by row.
@@ -93,7 +122,7 @@ fn gain_block(p: Plan, l: &[i16], lb: &[u8], x: usize, y: usize) -> i32
     t
 }
 
-// The total of a pixel's gains.
+// The total of a pixel's gains. Through `one_or_four` peel's rings of chroma would take twice as long.
 pub fn gains(p: Plan, l: &[i16], lb: &[u8], x: usize, y: usize) -> i32
     requires { ⌜ Planned p × Inside p x y × lumaLong p (lent (p .shape .packed) (now l) (now lb)) ⌝ }
     ensures { λ r. ⌜ Summed p (lent (p .shape .packed) (now (l .entry)) (now (lb .entry))) x y r ⌝ }
@@ -134,26 +163,4 @@ pub fn chroma_offset(
         return Offset(lent::entry(p.shape.packed, a, ab, k));
     }
     Offset(lent::entry(p.shape.packed, b, bb, k))
-}
-
-// The offset of a pixel.
-pub fn offset(
-    p: Plan,
-    l: &[i16],
-    lb: &[u8],
-    a: &[i16],
-    ab: &[u8],
-    b: &[i16],
-    bb: &[u8],
-    x: usize,
-    y: usize,
-) -> Offset
-    requires { ⌜ Sound p (now l) (now lb) (now a) (now ab) (now b) (now bb) × Inside p x y ⌝ }
-    ensures { λ r. ⌜ r ≡ offsetAt (lay (p .shape) (now (l .entry)) (now (lb .entry)) (now (a .entry)) (now (ab .entry)) (now (b .entry)) (now (bb .entry))) (p .shape .plane) x y ⌝ }
-{
-    if p.shape.plane == 0 {
-        luma_offset(p, l, lb, x, y)
-    } else {
-        chroma_offset(p, a, ab, b, bb, x, y)
-    }
 }

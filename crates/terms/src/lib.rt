@@ -1,13 +1,10 @@
 // What a pair of frames adds to a pixel's sums.
-use rules::Steps;
 ghost use mathlib.Core.Path.{_≡_};
 ghost use mathlib.Core.Bool.{cond};
-ghost use Prim.Native.Nat.{_+_, _<_};
 ghost use Rattle.rules.specs.Literals.{24·0};
 ghost use Rattle.rules.specs.Float.{_≺_};
 ghost use Rattle.rules.specs.Stats.{oneIfApart, sixTerms};
-ghost use Rattle.sample.specs.Points.{PlaneFits};
-ghost use Rattle.terms.specs.Terms.{listOf, movedOf, termsBy};
+ghost use Rattle.terms.specs.Terms.{listOf};
 
 // Of the moved samples p and the bytes i of both frames: the sums, the products, and how many are
 // far apart.
@@ -48,45 +45,4 @@ pub fn six_terms(pb: f32, pa: f32, ib: f32, ia: f32) -> Terms
         ii: ib * ib + ia * ia,
         apart: float::of_size(apart),
     }
-}
-
-// A plane at a pixel that moves.
-pub fn moved(
-    raw: &[u8],
-    pitch: usize,
-    x: usize,
-    y: usize,
-    dx: f32,
-    dy: f32,
-    width: usize,
-    height: usize,
-) -> f32
-    requires { ⌜ PlaneFits (now raw) pitch width height × (x < width) × (y < height) ⌝ }
-    ensures { λ r. ⌜ r ≡ movedOf (record { bytes = now (raw .entry); pitch = pitch }) x y dx dy (width, height) ⌝ }
-{
-    let u = sample::shifted(x, dx, width);
-    let v = sample::shifted(y, dy, height);
-    sample::sample(raw, pitch, u, v, width, height)
-}
-
-// The terms of a pixel.
-pub fn terms_by(
-    first: &[u8],
-    first_pitch: usize,
-    second: &[u8],
-    second_pitch: usize,
-    s: Steps,
-    width: usize,
-    height: usize,
-    x: usize,
-    y: usize,
-) -> Terms
-    requires { ⌜ PlaneFits (now first) «first_pitch» width height × PlaneFits (now second) «second_pitch» width height × (x < width) × (y < height) ⌝ }
-    ensures { λ r. ⌜ listOf r ≡ termsBy (record { bytes = now (first .entry); pitch = «first_pitch» }) (record { bytes = now (second .entry); pitch = «second_pitch» }) s (width, height) x y ⌝ }
-{
-    let pb = moved(first, first_pitch, x, y, s.fx, s.fy, width, height);
-    let pa = moved(second, second_pitch, x, y, s.bx, s.by, width, height);
-    let ib = sample::at(second, second_pitch, x, y);
-    let ia = sample::at(first, first_pitch, x, y);
-    six_terms(pb, pa, ib, ia)
 }

@@ -1,2 +1,2 @@
 pub mod Least
-pub mod Models
+pub mod Fixed

@@ -3,7 +3,7 @@ use mathlib.Core.Path.{_≡_, refl, _∙_}
 use mathlib.Core.Bool.{Bool, true, false, cond, _&&_}
 use mathlib.Core.List.{List}
 use Prim.Native.Nat.{ℕ, zero, suc, _+_, _-_, _*_, _/_, _%_, _≤_, _<_, min}
-use native.Mathlib.Nat.{mul-le-mul}
+use native.Mathlib.Nat.{mul-le-mul, div-le-self, le-div-iff-mul-le}
 use native.Mathlib.Omega.{arith}
 use lib.Dec.{eqb, lit<, lit≤}
 use lib.IntN.{ℤ, pos}
@@ -42,7 +42,7 @@ held-small x k r size inside small = go (eqb k 0) (eqb k 1)
     go false false = omega arith
 
 -- "1, 2, then 3 times 4/ratio" is a whole number
-quarter : (n : ℕ) → 1 ≤ n → n ≤ 4 → (n ≡ 3 → ⊥) → 4·0 ⊘ float n ≡ float (8 / n / 2)
+quarter : (n : ℕ) → 1 ≤ n → n ≤ 4 → (n ≡ 3 → ⊥) → 4·0 ⊘ float n ≡ float (4 / n)
 unfolding ofBits ofInt div
 quarter zero low high power = absurd (omega arith)
 quarter (suc zero) low high power = refl
@@ -51,13 +51,8 @@ quarter (suc (suc (suc zero))) low high power = absurd (power refl)
 quarter (suc (suc (suc (suc zero)))) low high power = refl
 quarter (suc (suc (suc (suc (suc n))))) low high power = absurd (omega arith)
 
-by-span : (n : ℕ) → 1 ≤ n → n ≤ 4 → (1 ≤ 8 / n / 2) × (8 / n / 2 ≤ 4)
-by-span zero low high = absurd (omega arith)
-by-span (suc zero) low high = (lit≤ tt, lit≤ tt)
-by-span (suc (suc zero)) low high = (lit≤ tt, lit≤ tt)
-by-span (suc (suc (suc zero))) low high = (lit≤ tt, lit≤ tt)
-by-span (suc (suc (suc (suc zero)))) low high = (lit≤ tt, lit≤ tt)
-by-span (suc (suc (suc (suc (suc n))))) low high = absurd (omega arith)
+pub radius-in : (n : ℕ) → 1 ≤ n → n ≤ 4 → (1 ≤ 4 / n) × (4 / n ≤ 4)
+radius-in n low high = (le-div-iff-mul-le {k = n} {x = 1} {y = 4} low .1 (omega arith), div-le-self 4 n)
 
 module _ (l : Layer) (plane : ℕ) (raw : Plane) (small : (k : ℕ) → getD (raw .bytes) k 0 ≤ 255) where
   -- the scene at a whole point
@@ -101,15 +96,12 @@ module _ (l : Layer) (plane : ℕ) (raw : Plane) (small : (k : ℕ) → getD (ra
       (wide : planeSize l plane .0 ≤ 4096) (tall : planeSize l plane .1 ≤ 4096)
       (low : 1 ≤ planeRatio l plane) (high : planeRatio l plane ≤ 4) (power : planeRatio l plane ≡ 3 → ⊥) where
     abbrev radius : ℕ
-    radius = 8 / planeRatio l plane / 2
-
-    radius-in : (1 ≤ radius) × (radius ≤ 4)
-    radius-in = by-span (planeRatio l plane) low high
+    radius = 4 / planeRatio l plane
 
     ring-whole : (times : ℕ) → 1 ≤ times → times ≤ 3 → ring l plane raw (float x) (float y) times ≡ wholeRing l plane raw (planeSize l plane) x y (radius * times) 3
     unfolding ring
     ring-whole times some few =
-        let s = radius-in in
+        let s = radius-in (planeRatio l plane) low high in
         let m = mul-le-mul (s .1) few in
         let n = mul-le-mul (s .0) some in
         rw (quarter (planeRatio l plane) low high power, mul-int binary32 (pos radius) times some (omega arith) (omega arith))
@@ -143,7 +135,7 @@ means-by l plane raw size x y radius times other r some low high e t =
 
 module _ (p : Plan) (luma first second : List ℤ) (raw : Plane) (x y : ℕ) (h : Planned p) (i : Inside p x y) (small : (k : ℕ) → getD (raw .bytes) k 0 ≤ 255) where
   pub planned-filled : (v : Float) → filled (holding (p .shape) luma first second) (p .shape .plane) raw (float x) (float y) (Raw v)
-      ≡ means (holding (p .shape) luma first second) (p .shape .plane) raw (p .across, p .down) x y (p .side / 2) 3 (Raw v)
+      ≡ means (holding (p .shape) luma first second) (p .shape .plane) raw (p .across, p .down) x y (4 / p .span) 3 (Raw v)
   planned-filled v =
       rw (h .is)
       (filled-is (holding (p .shape) luma first second) (p .shape .plane) raw small x y (rw (h .is) at (i .left)) (rw (h .is) at (i .above))

@@ -7,7 +7,7 @@ ghost use Prim.Native.Nat.{_*_, _/_, _<_, _≤_};
 ghost use lib.Dec.{eqb};
 ghost use Rattle.rules.specs.Float.{float};
 ghost use Rattle.rules.specs.Reading.{at, texel};
-ghost use Rattle.rules.specs.Scene.{lift, gathered, under as underOf, filled};
+ghost use Rattle.rules.specs.Scene.{lift, gathered, filled};
 ghost use Rattle.lent.specs.Lent.{lent, lay, Sound, Inside};
 ghost use Rattle.stored.specs.Stored.{Summed};
 ghost use Rattle.whole.specs.Rings.{Ready, heldAt, seen, gatheredOn, rowRing, wholeRing};
@@ -50,7 +50,20 @@ fn lifted_at(
     requires { ⌜ Ready p (now l) (now lb) (now a) (now ab) (now b) (now bb) (now raw) pitch × Inside p x y × Summed p (lent (p .shape .packed) (now l) (now lb)) x y total ⌝ }
     ensures { λ r. ⌜ r ≡ lift (at (record { bytes = now (raw .entry); pitch = pitch }) x y) (texel (lay (p .shape) (now (l .entry)) (now (lb .entry)) (now (a .entry)) (now (ab .entry)) (now (b .entry)) (now (bb .entry))) (p .shape .plane) x y) ⌝ }
 {
-    let m = texel::texel_of(p, l, lb, a, ab, b, bb, x, y, total);
+    let m = texel::texel_of(
+        p,
+        p.shape.plane == 0,
+        p.span,
+        l,
+        lb,
+        a,
+        ab,
+        b,
+        bb,
+        x,
+        y,
+        total,
+    );
     lift::lift(sample::at(raw, pitch, x, y), m)
 }
 
@@ -188,6 +201,18 @@ fn ring(
     r
 }
 
+// How far the first ring lies: 4 luma pixels. Each divisor is a constant.
+fn fill_step(span: usize) -> usize
+    requires { ⌜ (1 ≤ span) × (span ≤ 4) ⌝ }
+    ensures { λ r. ⌜ r ≡ 4 / span ⌝ }
+{
+    if span == 1 {
+        4
+    } else {
+        if span == 2 { 2 } else { 1 }
+    }
+}
+
 // The raw value v of a pixel, filled from its first ring with any.
 pub fn rings(
     p: Plan,
@@ -206,7 +231,7 @@ pub fn rings(
     requires { ⌜ Ready p (now l) (now lb) (now a) (now ab) (now b) (now bb) (now raw) pitch × Inside p x y ⌝ }
     ensures { λ r. ⌜ r ≡ filled (lay (p .shape) (now (l .entry)) (now (lb .entry)) (now (a .entry)) (now (ab .entry)) (now (b .entry)) (now (bb .entry))) (p .shape .plane) (record { bytes = now (raw .entry); pitch = pitch }) (float x) (float y) (Scene.Raw v) ⌝ }
 {
-    let radius = p.side / 2;
+    let radius = fill_step(p.span);
     let mut times = 1;
     while times <= 3 {
         let r = ring(p, l, lb, a, ab, b, bb, raw, pitch, x, y, radius * times);
@@ -216,25 +241,4 @@ pub fn rings(
         times += 1;
     }
     Scene::Raw(v)
-}
-
-// The scene value at a pixel, without filling.
-pub fn under(
-    p: Plan,
-    l: &[i16],
-    lb: &[u8],
-    a: &[i16],
-    ab: &[u8],
-    b: &[i16],
-    bb: &[u8],
-    raw: &[u8],
-    pitch: usize,
-    x: usize,
-    y: usize,
-) -> Scene
-    requires { ⌜ Ready p (now l) (now lb) (now a) (now ab) (now b) (now bb) (now raw) pitch × Inside p x y ⌝ }
-    ensures { λ r. ⌜ r ≡ underOf (lay (p .shape) (now (l .entry)) (now (lb .entry)) (now (a .entry)) (now (ab .entry)) (now (b .entry)) (now (bb .entry))) (p .shape .plane) (record { bytes = now (raw .entry); pitch = pitch }) (float x) (float y) ⌝ }
-{
-    let m = texel::texel(p, l, lb, a, ab, b, bb, x, y);
-    lift::lifted(sample::at(raw, pitch, x, y), m)
 }

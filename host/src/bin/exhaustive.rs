@@ -1,4 +1,4 @@
-//! `cargo run --release --bin exhaustive`: all 2^32 floats through the final rounding, the cut and both stored scales.
+//! `cargo run --release --bin exhaustive`: all 2^32 floats through the final rounding and both stored scales.
 
 use std::sync::atomic::{AtomicU32, Ordering};
 
@@ -11,17 +11,12 @@ struct Helper {
     rust: fn(f32) -> u64,
 }
 
-/// The Rust's expressions: `pixel` and `fixed` of layer.rs, and its `as usize`.
-const HELPERS: [Helper; 4] = [
+/// The Rust's expressions: `pixel` and `fixed` of layer.rs.
+const HELPERS: [Helper; 3] = [
     Helper {
         name: "pixel",
         ours: ffi::pixel,
         rust: |value| u64::from(value.round().clamp(0.0, 255.0) as u8),
-    },
-    Helper {
-        name: "cut",
-        ours: ffi::cut,
-        rust: |value| value as usize as u64,
     },
     Helper {
         name: "stored gain",

@@ -22,8 +22,8 @@ abbrev μ-loop : tie.MeasureT-loop
 loop-holds : tie.Need-loop-holds Inv-loop μ-loop
 loop-holds c = (row-none _ _ _ _, omega arith, refl)
 
-apply-dot-requires : tie.Need-apply-dot-requires Inv-loop μ-loop
-apply-dot-requires c κs =
+apply-pixel-requires : tie.Need-apply-pixel-requires Inv-loop μ-loop
+apply-pixel-requires c κs =
     let l = c .before .before in
     (search needs, search needs, pixel-cells (l .before .before .before .before .before .before .pre .3) (l .loop-test .taken))
 
@@ -31,7 +31,7 @@ loop-again : tie.Need-loop-again Inv-loop μ-loop
 loop-again c =
     let p = c .before .before in
     let inv = p .before .before .loop .inv in
-    (rw (p .place .ensures) (row-more _ (inv .0) (rw (p .place .ensures) at (c .apply-dot .ensures))), omega arith, simp length-set (inv .2))
+    (rw (p .place .ensures) (row-more _ (inv .0) (rw (p .place .ensures) at (c .apply-pixel .ensures))), omega arith, simp length-set (inv .2))
 
 returns : tie.Need-returns Inv-loop μ-loop
 returns c =
@@ -41,5 +41,5 @@ returns c =
 pub apply-row-spec : {M : Type 1} → statement M
 apply-row-spec =
     tie.close
-    (tie.spec Inv-loop μ-loop loop-holds (λ c κs. search needs) (λ c. search needs) apply-dot-requires
+    (tie.spec Inv-loop μ-loop loop-holds (λ c κs. search needs) (λ c. search needs) apply-pixel-requires
     (λ c. search needs) (λ c. search needs) (λ c. search needs) loop-again (λ c. search needs) returns)

@@ -12,18 +12,19 @@ returns c = refused _ _ _ (c .before .empty-refusal .ensures) (c .if1 .taken)
 
 rows-unmarked-requires : tie.Need-rows-unmarked-requires
 rows-unmarked-requires c κs =
-    let tests = c .before .before .before in
-    rw (c .before .before .divided .ensures, c .before .cells .ensures, c .cells2 .ensures) (in-rows _ (sym (tests .before .empty-refusal .ensures) ∙ tests .if1 .left))
+    let tests = c .before .before .before .before in
+    rw (c .before .before .before .planned .ensures, c .before .cells .ensures, c .cells2 .ensures) (in-rows _ _ (sym (tests .before .empty-refusal .ensures) ∙ tests .if1 .left))
 
 returns-2 : tie.Need-returns-2
 unfolding empty
 returns-2 c =
     let read = c .before in
-    let tests = read .before .before .before in
-    ran _ _ _ _ (tests .before .empty-refusal .ensures) (tests .if1 .left) (c .rows-unmarked .ensures ∙ rw (read .before .before .divided .ensures, read .before .cells .ensures, read .cells2 .ensures))
+    let tests = read .before .before .before .before in
+    ran _ _ _ _ (tests .before .empty-refusal .ensures) (tests .if1 .left) (c .rows-unmarked .ensures ∙ rw (read .before .before .before .planned .ensures, read .before .cells .ensures, read .cells2 .ensures))
 
 pub empty-spec : {M : Type 1} → statement M
 empty-spec =
     tie.close
     (tie.spec (λ c. search needs) (λ c. search needs) (λ c. search needs) (λ c κs. search needs) returns
-    (λ c κs. search needs) (λ c κs. search needs) (λ c κs. search needs) rows-unmarked-requires returns-2)
+    (λ c κs. search needs) (λ c. search needs) (λ c κs. search needs) (λ c κs. search needs)
+    rows-unmarked-requires returns-2)

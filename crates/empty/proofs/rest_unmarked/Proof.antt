@@ -6,18 +6,18 @@ use native.Mathlib.Omega.{arith}
 use borrow.Author.Needs.{needs}
 use Rattle.rules.specs.Forms.{all}
 use Rattle.table.proofs.Turns.{turns-more}
-use Rattle.empty.specs.Marks.{rowUnmarked}
+use Rattle.empty.specs.Marks.{celled, rowUnmarked}
 use Rattle.empty.proofs.rest_unmarked.Statement.{statement}
 use Rattle.empty.proofs.rest_unmarked.Tie as tie
 
 abbrev Inv-loop : tie.InvT-loop
-Inv-loop b row pitch width from before none₀ x₀ none x = (none ≡ rowUnmarked b row pitch x) × (x ≤ width)
+Inv-loop p b bb y width from before none₀ x₀ none x = (none ≡ rowUnmarked (celled p b bb) y x) × (x ≤ width)
 
 abbrev μ-loop : tie.MeasureT-loop
-μ-loop b row pitch width from before none₀ x₀ none x = width - x
+μ-loop p b bb y width from before none₀ x₀ none x = width - x
 
 loop-holds : tie.Need-loop-holds Inv-loop μ-loop
-loop-holds c = (c .pre .2, c .pre .1)
+loop-holds c = (c .before .pre .2, c .before .pre .1)
 
 loop-again : tie.Need-loop-again Inv-loop μ-loop
 unfolding all

@@ -8,7 +8,7 @@ use Rattle.empty.proofs.row_unmarked.Tie as tie
 
 rest-unmarked-requires-2 : tie.Need-rest-unmarked-requires-2
 unfolding turns all
-rest-unmarked-requires-2 c κs = (c .before .pre, omega arith, refl)
+rest-unmarked-requires-2 c κs = (c .before .before .pre, omega arith, refl)
 
 pub row-unmarked-spec : {M : Type 1} → statement M
 row-unmarked-spec =

@@ -1,6 +1,6 @@
 -- `gather::gather_pixels` meets its contract. The invariant: the first x pixels are added, and what is carried holds its columns.
 -- Assumes nothing.
-use borrow.Author.Count.{falls}
+use borrow.Author.Needs.{needs}
 use mathlib.Core.Path.{_≡_, refl, _∙_}
 use Prim.Native.Nat.{zero-le, _+_, _*_, _-_, _≤_}
 use native.Mathlib.Nat.{le-antisymm}
@@ -26,45 +26,46 @@ loop-holds c =
     let s = c .before .before .before .before .before .before .before in
     (row-none _ _ _ _ _ _, first-place _ _, zero-le, refl, s .pre .2 .holds)
 
-gather-pixel-requires : tie.Need-gather-pixel-requires Inv-loop μ-loop
-gather-pixel-requires c κs =
-    let at = c .before .before in
-    let s = at .before .before .before .before .before .before .before .before in
-    let a = s .args in
-    let inv = at .loop .inv in
+-- a run ends within the row, and its places within the sums
+ahead : (c : tie.After-run-length Inv-loop μ-loop) → c .before .before .loop .x + c .run-length .result ≤ c .before .before .before .before .before .before .before .before .before .before .args .width
+ahead c = omega (arith, c .run-length .ensures .within, c .before .loop-test .taken)
+
+placed : (c : tie.After-run-length Inv-loop μ-loop) → c .before .before .loop .k + c .before .before .before .before .before .before .before .before .before .before .args .many * c .run-length .result ≤ length (c .before .before .before .before .before .before .before .before .before .before .args .sums .now)
+placed c =
+    let s = c .before .before .before .before .before .before .before .before .before .before in
+    let l = c .before .before .loop in
+    omega (arith, s .pre .3, l .inv .1, room (s .args .many) (l .x) _ (s .args .width) (ahead c))
+
+gather-run-requires : tie.Need-gather-run-requires Inv-loop μ-loop
+gather-run-requires c κs =
+    let run = c .before in
+    let s = run .before .before .before .before .before .before .before .before .before .before in
+    let inv = run .before .before .loop .inv in
     let started = s .pre .2 in
-    let h = room (a .many) (at .loop .x) (a .width) (c .before .loop-test .taken) in
-    (s .pre .0, s .pre .1, record { rows = started .rows; holds = inv .4; low = started .low }, c .before .loop-test .taken, omega (arith, s .pre .3, inv .1, inv .3))
+    (s .pre .0, s .pre .1, record { rows = started .rows; holds = inv .4; low = started .low }, ahead run, run .run-length .ensures .few, omega (arith, placed run, inv .3))
+
+mul-k : tie.Need-mul-k Inv-loop μ-loop
+mul-k c = omega (arith, placed (c .before .before .before .before), c .before .before .before .before .before .before .before .before .before .before .before .before .before .before .good .0 .0)
 
 add-k : tie.Need-add-k Inv-loop μ-loop
-add-k c =
-    let at = c .before .before .before .before .before in
-    let s = at .before .before .before .before .before .before .before .before in
-    let a = s .args in
-    let inv = at .loop .inv in
-    let h = room (a .many) (at .loop .x) (a .width) (c .before .before .before .before .loop-test .taken) in
-    omega (arith, s .pre .3, inv .1, s .good .0 .0)
+add-k c = omega (arith, placed (c .before .before .before .before), c .before .before .before .before .before .before .before .before .before .before .before .before .before .before .good .0 .0)
 
 add-x : tie.Need-add-x Inv-loop μ-loop
-add-x c =
-    let at = c .before .before .before .before .before in
-    let s = at .before .before .before .before .before .before .before .before in
-    omega (arith, c .before .before .before .before .loop-test .taken, s .pre .0 .first-fits .wide .1)
+add-x c = omega (arith, ahead (c .before .before .before .before), c .before .before .before .before .before .before .before .before .before .before .before .before .before .before .pre .0 .first-fits .wide .1)
 
 loop-less : tie.Need-loop-less Inv-loop μ-loop
-loop-less c = falls _ _ (c .before .before .before .before .loop-test .taken)
+loop-less c = omega (arith, c .before .before .before .before .run-length .ensures .some, c .before .before .before .before .before .loop-test .taken)
 
 loop-again : tie.Need-loop-again Inv-loop μ-loop
 loop-again c =
-    let done = c .before .before .gather-pixel in
-    let test = c .before .before .before .before in
-    let at = test .before in
-    let s = at .before .before .before .before .before .before .before .before in
-    let a = s .args in
-    let inv = at .loop .inv in (
-      row-more (a .pairs) (a .many) _ (a .y) (a .place) (at .loop .x) (at .loop .k) (a .sums .now) (at .loop .sums) _ _ (inv .0) (inv .1) refl (done .ensures .sums),
-      next (a .many) (at .loop .x) (a .place) (at .loop .k) (inv .1),
-      omega (arith, test .loop-test .taken),
+    let done = c .before .before .gather-run in
+    let run = c .before .before .before .before in
+    let l = run .before .before .loop in
+    let inv = l .inv in
+    let a = run .before .before .before .before .before .before .before .before .before .before .args in (
+      row-more (a .pairs) (a .many) _ (a .y) (a .place) (l .x) (run .run-length .result) (l .k) (a .sums .now) (l .sums) _ (inv .0) (inv .1) (done .ensures .sums),
+      next (a .many) (l .x) _ (a .place) (l .k) (inv .1),
+      ahead run,
       done .kept .0 ∙ inv .3,
       done .ensures .holds,
     )
@@ -80,5 +81,5 @@ returns c =
 pub gather-pixels-spec : {M : Type 1} → statement M
 gather-pixels-spec =
     tie.close
-    (tie.spec Inv-loop μ-loop loop-holds gather-pixel-requires add-k add-x loop-less loop-again same-length
+    (tie.spec Inv-loop μ-loop loop-holds (λ c. search needs) (λ c κs. omega (arith, c .loop-test .taken)) gather-run-requires mul-k add-k add-x loop-less loop-again same-length
     returns)

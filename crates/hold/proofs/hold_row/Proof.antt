@@ -22,8 +22,8 @@ abbrev μ-loop : tie.MeasureT-loop
 loop-holds : tie.Need-loop-holds Inv-loop μ-loop
 loop-holds c = (row-none _ _ _ _, omega arith, refl)
 
-hold-dot-requires : tie.Need-hold-dot-requires Inv-loop μ-loop
-hold-dot-requires c κs =
+hold-pixel-requires : tie.Need-hold-pixel-requires Inv-loop μ-loop
+hold-pixel-requires c κs =
     let l = c .before .before in
     (search needs, pixel-cells (l .before .before .before .before .before .pre .2) (l .loop-test .taken))
 
@@ -31,7 +31,7 @@ loop-again : tie.Need-loop-again Inv-loop μ-loop
 loop-again c =
     let p = c .before .before in
     let inv = p .before .before .loop .inv in
-    (rw (p .place .ensures) (row-more _ (inv .0) (rw (p .place .ensures) at (c .hold-dot .ensures))), omega arith, simp length-set (inv .2))
+    (rw (p .place .ensures) (row-more _ (inv .0) (rw (p .place .ensures) at (c .hold-pixel .ensures))), omega arith, simp length-set (inv .2))
 
 returns : tie.Need-returns Inv-loop μ-loop
 returns c =
@@ -41,5 +41,5 @@ returns c =
 pub hold-row-spec : {M : Type 1} → statement M
 hold-row-spec =
     tie.close
-    (tie.spec Inv-loop μ-loop loop-holds (λ c κs. search needs) (λ c. search needs) hold-dot-requires
+    (tie.spec Inv-loop μ-loop loop-holds (λ c κs. search needs) (λ c. search needs) hold-pixel-requires
     (λ c. search needs) (λ c. search needs) (λ c. search needs) loop-again (λ c. search needs) returns)

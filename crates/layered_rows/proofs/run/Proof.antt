@@ -34,8 +34,8 @@ slice-read-old c =
     omega (arith, c .before .place .ensures, s .pre .1 .room, at-loop .inv .3, c .before .before .loop-test .taken)
 
 -- src/lib.rt:39:13
-dot-requires : tie.Need-dot-requires Inv-loop μ-loop
-dot-requires c κs =
+change-requires : tie.Need-change-requires Inv-loop μ-loop
+change-requires c κs =
     let s = c .before .before .before .before .before .before .before .before .before .before in
     let at-loop = c .before .before .before .loop in
     let below = c .before .before .loop-test .taken in (
@@ -64,7 +64,7 @@ loop-again c =
     let inv = placed .before .before .loop .inv in
     let below = placed .before .loop-test .taken in
     let e = placed .place .ensures in (
-      run-more (inv .1) (inv .0) (rw e at (ruled .dot .ensures)) (rw e at (stamped .stamp .ensures)),
+      run-more (inv .1) (inv .0) (rw e at (ruled .change .ensures)) (rw e at (stamped .stamp .ensures)),
       omega arith,
       omega arith,
       stamped .stamp .kept .0 ∙ inv .3,
@@ -79,5 +79,5 @@ returns c =
 pub run-spec : {M : Type 1} → statement M
 run-spec =
     tie.close
-    (tie.spec Inv-loop μ-loop loop-holds (λ c κs. search needs) slice-read-old dot-requires stamp-requires
+    (tie.spec Inv-loop μ-loop loop-holds (λ c κs. search needs) slice-read-old change-requires stamp-requires
     (λ c. search needs) (λ c. search needs) loop-again (λ c. search needs) returns)

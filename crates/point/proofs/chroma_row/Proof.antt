@@ -1,12 +1,13 @@
 -- `point::chroma_row` meets its contract, by its callees'. Assumes nothing.
 use Rattle.point.specs.Points.{rowOf}
 use borrow.Author.Needs.{needs}
+use Rattle.texel.proofs.Models.{chroma-fixed}
 use Rattle.point.proofs.chroma_row.Statement.{statement}
 use Rattle.point.proofs.chroma_row.Tie as tie
 
 returns : tie.Need-returns
 unfolding rowOf
-returns c = rw (c .mix-models .ensures, c .before .chroma2 .ensures, c .before .before .chroma .ensures)
+returns c = rw (c .mix-models .ensures, c .before .straight2 .ensures, c .before .before .straight .ensures)
 
 returns-2 : tie.Need-returns-2
 unfolding rowOf
@@ -15,5 +16,5 @@ returns-2 c = rw (c .mix-models2 .ensures, c .before .texel2 .ensures, c .before
 pub chroma-row-spec : {M : Type 1} → statement M
 chroma-row-spec =
     tie.close
-    (tie.spec (λ c κs. search needs) (λ c κs. search needs) (λ c κs. search needs) returns (λ c κs. search needs) (λ c κs. search needs)
+    (tie.spec (λ c κs. search (needs, chroma-fixed)) (λ c κs. search (needs, chroma-fixed)) (λ c κs. search needs) returns (λ c κs. search needs) (λ c κs. search needs)
     (λ c κs. search needs) returns-2)

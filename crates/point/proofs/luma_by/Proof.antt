@@ -4,15 +4,15 @@ use borrow.Author.Needs.{needs}
 use Rattle.point.proofs.luma_by.Statement.{statement}
 use Rattle.point.proofs.luma_by.Tie as tie
 
-luma-texel-requires : tie.Need-luma-texel-requires
-luma-texel-requires c κs =
+luma-at-requires : tie.Need-luma-at-requires
+luma-at-requires c κs =
     let s = c .before .before .before .before .before in
     rw (c .place .ensures) (luma-in _ _ _ _ _ _ _ (s .pre .0) (s .pre .1 .left) (s .pre .1 .above))
 
 returns : tie.Need-returns
 returns c =
     let test = c .before .before in
-    rw (c .luma-texel .ensures, c .before .place .ensures) (whole-is _ _ _ _ (test .before .both .ensures) (test .if1 .taken))
+    rw (c .luma-at .ensures, c .before .place .ensures) (whole-is _ _ _ _ (test .before .both .ensures) (test .if1 .taken))
 
 returns-2 : tie.Need-returns-2
 returns-2 c =
@@ -22,5 +22,5 @@ returns-2 c =
 pub luma-by-spec : {M : Type 1} → statement M
 luma-by-spec =
     tie.close
-    (tie.spec (λ c κs. search needs) (λ c κs. search needs) luma-texel-requires returns (λ c κs. search needs)
+    (tie.spec (λ c κs. search needs) (λ c κs. search needs) luma-at-requires returns (λ c κs. search needs)
     (λ c κs. search needs) (λ c κs. search needs) returns-2)

@@ -3,7 +3,7 @@ use native.Mathlib.Omega.{arith}
 use mir.Syntax.{w16}
 use Rattle.lent.proofs.Signed.{back}
 use Rattle.layered_rows.proofs.Cells.{run-skip}
-use Rattle.render_rows.proofs.Dots.{far-cell, cell-one}
+use Rattle.render_rows.proofs.Changes.{far-cell, cell-one}
 use borrow.Author.Needs.{needs}
 use Rattle.render_rows.proofs.render_cell.Statement.{statement}
 use Rattle.render_rows.proofs.render_cell.Tie as tie

@@ -3,13 +3,13 @@ use mathlib.Core.Path.{sym, _∙_}
 use native.Mathlib.Omega.{arith}
 use mir.Facts.{toZ-ofZ}
 use Rattle.render_rows.proofs.Runs.{run-one}
-use Rattle.render_rows.proofs.Dots.{pixel-is}
+use Rattle.render_rows.proofs.Changes.{pixel-is}
 use borrow.Author.Needs.{needs}
 use Rattle.render_rows.proofs.render_pixel.Statement.{statement}
 use Rattle.render_rows.proofs.render_pixel.Tie as tie
 
-render-dot-requires : tie.Need-render-dot-requires
-render-dot-requires c κs =
+render-change-requires : tie.Need-render-change-requires
+render-change-requires c κs =
     let s = c .before .before .before .before .before .before .before .before .before .before .before in
     let asks = s .pre .1 in
     (s .pre .0 .framed, record { left = omega (arith, asks .within); above = asks .above }, rw (toZ-ofZ (s .fits .d)) (sym (s .pre .3 .one (s .args .x) (omega arith) (omega arith))))
@@ -36,12 +36,12 @@ returns c =
     let a = s .args in
     let e = pixel-is (a .j) _ _ _ _ _ _ _ _ _ (s .pre .0) (a .x) (a .y) _ (a .d) (a .down) (held .carry .result) (ruled .before .before .steps-of .result) (ruled .before .timed .result) (s .pre .3) (s .pre .2 .rows .is) (held .carry .ensures) (ruled .before .before .steps-of .ensures) (ruled .before .timed .ensures) in
     record {
-      row = run-one (ruled .render-dot .ensures ∙ e) (rw (stamped .before .before .place .ensures) at (stamped .stamp .ensures));
+      row = run-one (ruled .render-change .ensures ∙ e) (rw (stamped .before .before .place .ensures) at (stamped .stamp .ensures));
       holds = held .carry .ensures .holds;
     }
 
 pub render-pixel-spec : {M : Type 1} → statement M
 render-pixel-spec =
     tie.close
-    (tie.spec (λ c κs. search needs) (λ c κs. search needs) (λ c κs. search needs) render-dot-requires
+    (tie.spec (λ c κs. search needs) (λ c κs. search needs) (λ c κs. search needs) render-change-requires
     place-requires stamp-requires (λ c. search needs) returns)

@@ -9,7 +9,7 @@ use borrow.Author.Needs.{needs}
 use Rattle.render_rows.specs.Jobs.{motionIn, ruleIn, RunDone}
 use Rattle.render_rows.proofs.Runs.{run-join, part-asks}
 use Rattle.layered_rows.proofs.Cells.{run-none}
-use Rattle.render_rows.proofs.Dots.{near-part}
+use Rattle.render_rows.proofs.Changes.{near-part}
 use Rattle.render_rows.proofs.render_run.Statement.{statement}
 use Rattle.render_rows.proofs.render_run.Tie as tie
 

@@ -1,7 +1,7 @@
 use borrow.Author.Needs.{needs}
-use mathlib.Core.Path.{_≡_, refl, _∙_}
+use mathlib.Core.Path.{_≡_, refl, sym, _∙_}
 use mathlib.Core.List.{List}
-use Prim.Native.Nat.{ℕ, _≤_, _-_}
+use Prim.Native.Nat.{ℕ, _≤_, _<_, _-_, _*_}
 use native.Mathlib.Nat.{le-antisymm}
 use native.Mathlib.Omega.{arith}
 use lib.ListN.{length}
@@ -10,7 +10,7 @@ use Rattle.rules.specs.Forms.{turns, scanRow}
 use Rattle.table.proofs.Turns.{turns-more}
 use Rattle.window.specs.Lent.{lent}
 use Rattle.rough.specs.Search.{searchAt}
-use Rattle.rough.proofs.Pixels.{still-searching}
+use Rattle.rough.proofs.Pixels.{pixel-in, none-found, one-found, still-searching}
 use Rattle.rough.proofs.fit_row.Statement.{statement}
 use Rattle.rough.proofs.fit_row.Tie as tie
 
@@ -23,25 +23,69 @@ abbrev μ-loop : tie.MeasureT-loop
 μ-loop models₀ kept₀ previous previous1 previous2 own own1 own2 next next1 next2 counts g limit evidence strict y width x₀ models kept x =
     width - x
 
+abbrev start : tie.At-loop Inv-loop μ-loop → tie.Start Inv-loop μ-loop
+start l = l .before .before .before .before .before .before .before .before .before .before .before .before
+
+below : (c : tie.In-loop Inv-loop μ-loop) → c .before .loop .x < 4096
+below c = omega (arith, c .loop-test .taken, start (c .before) .pre .0 .formed .wide)
+
+-- the pixel of a turn lies in the plane
+inside : (c : tie.After-place Inv-loop μ-loop) → let a = start (c .before .before) .args in c .place .result < a .g .width * a .g .height
+inside c =
+    let s = start (c .before .before) in
+    rw (c .place .ensures) (pixel-in (s .args .g) (s .pre .0 .formed) (c .before .before .loop .x) (s .args .y) (c .before .loop-test .taken) (s .pre .1))
+
 loop-holds : tie.Need-loop-holds Inv-loop μ-loop
 unfolding turns scanRow
 loop-holds c = (refl, omega arith, refl, refl)
 
-fit-pixel-requires : tie.Need-fit-pixel-requires Inv-loop μ-loop
-fit-pixel-requires c κs =
-    let l = c .before .before .before in
-    let s = c .before .before .before .before .before .before .before .before .before .before .before .before .before .before .before in
-    (still-searching (s .pre .0) (l .loop .inv .2) (l .loop .inv .3), c .before .before .loop-test .taken, s .pre .1)
+place-requires : tie.Need-place-requires Inv-loop μ-loop
+place-requires c κs =
+    let s = start (c .before) in
+    omega (arith, below c, s .pre .0 .formed .wide, s .pre .0 .formed .tall, s .pre .1)
+
+window-requires : tie.Need-window-requires Inv-loop μ-loop
+window-requires c κs =
+    let q = start (c .before .before) .pre .0 in
+    (q .ready, omega (arith, inside c, q .own-long))
+
+pass-over-requires : tie.Need-pass-over-requires Inv-loop μ-loop
+pass-over-requires c κs =
+    let p = c .before .before .before .before .before in
+    let l = p .before .before in
+    omega (arith, inside p, start l .pre .0 .models-long, start l .pre .0 .kept-long, l .loop .inv .2, l .loop .inv .3)
+
+put-found-requires : tie.Need-put-found-requires Inv-loop μ-loop
+put-found-requires c κs =
+    let p = c .before .before .before .before .before .before in
+    let l = p .before .before in
+    (still-searching (start l .pre .0) (l .loop .inv .2) (l .loop .inv .3), p .before .loop-test .taken, start l .pre .1)
 
 add-x : tie.Need-add-x Inv-loop μ-loop
-add-x c = omega (arith, c .before .before .before .before .before .before .before .before .loop .inv .1, c .before .before .before .before .before .before .before .loop-test .taken, c .before .before .before .before .before .before .before .before .before .before .before .before .before .before .before .before .before .before .before .before .pre .0 .formed .wide .1)
+add-x c = omega (arith, below (c .before .before .before .before .before .before .before .before .before .before .before))
+
+add-x-2 : tie.Need-add-x-2 Inv-loop μ-loop
+add-x-2 c = omega (arith, below (c .before .before .before .before .before .before .before .before .before .before .before .before))
 
 loop-again : tie.Need-loop-again Inv-loop μ-loop
 unfolding scanRow
 loop-again c =
-    let pixel = c .before .before .before .before .fit-pixel in
-    let inv = c .before .before .before .before .before .before .before .before .loop .inv in
-    (turns-more _ _ _ _ _ (inv .0) (pixel .ensures), omega arith, pixel .kept .0 ∙ inv .2, pixel .kept .1 .0 ∙ inv .3)
+    let pixel = c .before .before .before .before in
+    let told = pixel .before .before .before in
+    let w = told .before .before in
+    let p = w .before in
+    let inv = p .before .before .loop .inv in
+    (turns-more _ _ _ _ _ (inv .0) (none-found _ _ _ _ _ _ _ (p .place .ensures) _ _ (sym (w .window .ensures) ∙ told .enum-told .given .1) (pixel .pass-over .ensures)), omega arith, pixel .pass-over .kept .0 ∙ inv .2, pixel .pass-over .kept .1 .0 ∙ inv .3)
+
+loop-again-2 : tie.Need-loop-again-2 Inv-loop μ-loop
+unfolding scanRow
+loop-again-2 c =
+    let pixel = c .before .before .before .before in
+    let told = pixel .before .before .before .before in
+    let w = told .before .before in
+    let p = w .before in
+    let inv = p .before .before .loop .inv in
+    (turns-more _ _ _ _ _ (inv .0) (one-found _ _ _ _ _ _ _ (p .place .ensures) _ _ _ _ (sym (w .window .ensures) ∙ told .model .given .1) (pixel .put-found .ensures)), omega arith, pixel .put-found .kept .0 ∙ inv .2, pixel .put-found .kept .1 .0 ∙ inv .3)
 
 returns : tie.Need-returns Inv-loop μ-loop
 returns c =
@@ -51,5 +95,6 @@ returns c =
 pub fit-row-spec : {M : Type 1} → statement M
 fit-row-spec =
     tie.close
-    (tie.spec Inv-loop μ-loop loop-holds fit-pixel-requires add-x (λ c. search needs) loop-again
-    (λ c. search needs) (λ c. search needs) returns)
+    (tie.spec Inv-loop μ-loop loop-holds place-requires window-requires (λ c. search needs) (λ c. search needs)
+    pass-over-requires add-x (λ c. search needs) loop-again put-found-requires add-x-2 (λ c. search needs)
+    loop-again-2 (λ c. search needs) (λ c. search needs) returns)

@@ -1,10 +1,7 @@
 -- `sample::whole` meets its contract. Assumes nothing.
 use borrow.Author.Needs.{needs}
 use mathlib.Core.Path.{_≡_}
-use native.Mathlib.Nat.{lt-of-le-of-lt, lt-of-lt-of-le, sub-le}
-use lib.Dec.{lit≤}
 use lib.Ieee.{Float, ofBits}
-use lib.Ieee.Casts.{toUnsigned-lt}
 use Rattle.float.proofs.Floor.{there-and-back}
 use Rattle.sample.specs.Points.{positiveOf}
 use Rattle.sample.proofs.Cut.{Cuts, cuts}
@@ -24,10 +21,6 @@ sub-result c =
     let k = at-start (c .before .before .before) (c .before .before .positive .result) (c .before .before .positive .ensures) in
     rw (c .one-if .ensures) (k .enough)
 
-cast-result : tie.Need-cast-result
-unfolding ofBits
-cast-result c = record { fits = lt-of-le-of-lt (sub-le _ _) (lt-of-lt-of-le (toUnsigned-lt 32 _) (lit≤ tt)) }
-
 returns : tie.Need-returns
 unfolding ofBits
 returns c =
@@ -37,4 +30,4 @@ returns c =
 pub whole-spec : {M : Type 1} → statement M
 whole-spec =
     tie.close
-    (tie.spec (λ c κs. search needs) float-to-int-n (λ c κs. search needs) sub-result cast-result returns)
+    (tie.spec (λ c κs. search needs) float-to-int-n (λ c κs. search needs) sub-result returns)

@@ -1,16 +1,29 @@
--- `texel::texel_of` meets its contract. Assumes nothing.
+-- `texel::texel_of` meets its contract, by its callees'. Assumes nothing.
 use borrow.Author.Needs.{needs}
+use borrow.Author.Tests.{eqb-true, eqb-false}
 use mathlib.Core.Path.{_∙_}
 use mir.Syntax.{w32}
 use Rattle.lent.proofs.Signed.{back}
-use Rattle.texel.proofs.Models.{model-is}
+use Rattle.texel.proofs.Models.{chroma-is}
 use Rattle.texel.proofs.texel_of.Statement.{statement}
 use Rattle.texel.proofs.texel_of.Tie as tie
 
-returns : tie.Need-returns
-returns c =
-    let s = c .before .before .before .before .before in
-    rw (back w32 (s .args .total) (s .fits .total .sfits)) at (c .model-of .ensures) ∙ model-is (s .args .p) _ _ _ (s .args .x) (s .args .y) (s .args .total) (s .pre .2) _ (c .before .offset .ensures)
+luma-model-requires : tie.Need-luma-model-requires
+luma-model-requires c κs =
+    let s = c .before .before .before .before in
+    (s .pre .0, s .pre .1, eqb-true _ _ (s .pre .2 .luma-is ∙ c .if1 .taken))
+
+chroma-offset-requires : tie.Need-chroma-offset-requires
+chroma-offset-requires c κs =
+    let s = c .before .before .before .before in
+    let sound = s .pre .0 in
+    (sound .planned, s .pre .1, sound .first-long, sound .second-long, eqb-false _ _ (s .pre .2 .luma-is ∙ c .if1 .left))
+
+returns-2 : tie.Need-returns-2
+returns-2 c =
+    let s = c .before .before .before .before .before .before in
+    rw (back w32 (s .args .total) (s .fits .total .sfits), c .before .chroma-offset .ensures) at (c .chroma-texel .ensures)
+    ∙ chroma-is (s .args .p) _ _ _ (s .args .x) (s .args .y) _ (s .args .total) (s .pre .3) (s .pre .2 .span-is) (eqb-false _ _ (s .pre .2 .luma-is ∙ c .before .before .if1 .left))
 
 pub texel-of-spec : {M : Type 1} → statement M
-texel-of-spec = tie.close (tie.spec (λ c κs. search needs) (λ c κs. search needs) returns)
+texel-of-spec = tie.close (tie.spec luma-model-requires (λ c. search needs) chroma-offset-requires (λ c κs. search needs) returns-2)

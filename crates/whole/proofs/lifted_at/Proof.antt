@@ -6,7 +6,7 @@ use Rattle.whole.proofs.lifted_at.Tie as tie
 
 at-requires : tie.Need-at-requires
 at-requires c κs =
-    let s = c .before .before .before .before .before in
+    let s = c .before .before .before .before .before .before in
     byte-asks (s .args .x) (s .args .y) (s .pre .0 .fits) (s .pre .1 .left) (s .pre .1 .above)
 
 returns : tie.Need-returns

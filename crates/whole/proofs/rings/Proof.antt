@@ -10,7 +10,7 @@ use Rattle.rules.specs.Float.{float}
 use Rattle.rules.specs.Scene.{filled}
 use Rattle.lent.specs.Lent.{lay}
 use Rattle.whole.specs.Rings.{means}
-use Rattle.whole.proofs.Around.{planned-filled, means-by}
+use Rattle.whole.proofs.Around.{radius-in, planned-filled, means-by}
 use Rattle.whole.proofs.rings.Statement.{statement}
 use Rattle.whole.proofs.rings.Tie as tie
 
@@ -28,7 +28,13 @@ abbrev μ-loop : tie.MeasureT-loop
 loop-holds : tie.Need-loop-holds Inv-loop μ-loop
 loop-holds c =
     let s = c .before .before .before .before .before in
-    (planned-filled (s .args .p) _ _ _ _ _ _ (s .pre .0 .sound .planned) (s .pre .1) (λ k. omega (arith, c .before .shared-slice-known4 .given k)) _, omega arith, omega arith, omega (arith, s .pre .0 .sound .planned .small))
+    let h = s .pre .0 .sound .planned in
+    let e = c .fill-step .ensures in (
+      rw e (planned-filled (s .args .p) _ _ _ _ _ _ h (s .pre .1) (λ k. omega (arith, c .before .shared-slice-known4 .given k)) _),
+      omega arith,
+      omega arith,
+      rw e (radius-in (s .args .p .span) (h .span .0) (h .span .1) .1),
+    )
 
 mul-ring : tie.Need-mul-ring Inv-loop μ-loop
 mul-ring c =
@@ -63,5 +69,5 @@ returns-2 c =
 pub rings-spec : {M : Type 1} → statement M
 rings-spec =
     tie.close
-    (tie.spec Inv-loop μ-loop loop-holds mul-ring ring-requires returns (λ c. search needs)
+    (tie.spec Inv-loop μ-loop (λ c κs. search needs) loop-holds mul-ring ring-requires returns (λ c. search needs)
     (λ c. search needs) loop-again returns-2)

@@ -1,0 +1,21 @@
+-- `motion::column_place` meets its contract. Assumes nothing.
+use borrow.Author.Needs.{needs}
+use Rattle.motion.proofs.Fields.{back}
+use Rattle.motion.proofs.column_place.Statement.{statement}
+use Rattle.motion.proofs.column_place.Tie as tie
+
+returns : tie.Need-returns
+returns c =
+    let s = c .before .before .before .before .before .before .before in
+    let g = s .args .grid in
+    let h = c .held .ensures in
+    record {
+      is = rw (h .is, c .before .of-int2 .ensures, c .before .before .before .of-int .ensures, c .before .before .before .before .before .of-size .ensures, c .before .before .before .before .before .before .of-count .ensures, back (g .«origin_x») (s .pre .0 .origins .0), back (g .«block_width») (s .pre .0 .blocks .0));
+      within = h .within;
+    }
+
+pub column-place-spec : {M : Type 1} → statement M
+column-place-spec =
+    tie.close
+    (tie.spec (λ c κs. search needs) (λ c κs. search needs) (λ c κs. search needs) (λ c κs. search needs)
+    (λ c κs. search needs) returns)

@@ -1,0 +1,20 @@
+-- `texel::luma_model` meets its contract, by its callees'. Assumes nothing.
+use borrow.Author.Needs.{needs}
+use Rattle.lent.proofs.Plans.{one-of}
+use Rattle.texel.proofs.Models.{luma-is}
+use Rattle.texel.proofs.luma_model.Statement.{statement}
+use Rattle.texel.proofs.luma_model.Tie as tie
+
+luma-gain-requires : tie.Need-luma-gain-requires
+luma-gain-requires c κs =
+    let s = c .before .before .before in
+    let h = s .pre .0 .planned in
+    (h, s .pre .1, s .pre .0 .luma-long, one-of (s .args .p) h (s .pre .2))
+
+returns : tie.Need-returns
+returns c =
+    let s = c .before .before .before .before .before .before in
+    rw (c .luma-texel .ensures, c .before .luma-offset .ensures, c .before .before .luma-gain .ensures) (luma-is _ _ _ _ (s .pre .2))
+
+pub luma-model-spec : {M : Type 1} → statement M
+luma-model-spec = tie.close (tie.spec luma-gain-requires (λ c κs. search needs) (λ c κs. search needs) returns)
