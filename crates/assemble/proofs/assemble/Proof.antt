@@ -1,3 +1,4 @@
+-- `assemble::assemble` meets its contract. Assumes nothing.
 use mathlib.Core.Path.{sym, _∙_}
 use Rattle.assemble.proofs.Whole.{refused, ready, ran}
 use borrow.Author.Needs.{needs}

@@ -1,3 +1,4 @@
+-- `assemble::assembled` meets its contract. Assumes nothing.
 use mathlib.Core.Path.{sym, refl, _∙_}
 use borrow.Author.Needs.{needs}
 use Rattle.assemble.proofs.assembled.Statement.{statement}

@@ -1,3 +1,4 @@
+-- `assemble::grid` meets its contract. Assumes nothing.
 use borrow.Author.Needs.{needs}
 use Rattle.assemble.proofs.grid.Statement.{statement}
 use Rattle.assemble.proofs.grid.Tie as tie

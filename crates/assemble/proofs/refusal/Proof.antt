@@ -1,3 +1,4 @@
+-- `assemble::refusal` meets its contract. Assumes nothing.
 use Rattle.rules.specs.Refusals.{firstFitting, assembleTable}
 use borrow.Author.Needs.{needs}
 use Rattle.assemble.proofs.refusal.Statement.{statement}

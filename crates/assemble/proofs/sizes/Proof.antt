@@ -1,3 +1,4 @@
+-- `assemble::sizes` meets its contract. Assumes nothing.
 use borrow.Author.Needs.{needs}
 use Rattle.assemble.proofs.sizes.Statement.{statement}
 use Rattle.assemble.proofs.sizes.Tie as tie

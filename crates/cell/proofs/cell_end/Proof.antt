@@ -1,3 +1,4 @@
+-- `cell::cell_end` meets its contract. Assumes nothing.
 use mathlib.Core.Path.{_≡_}
 use Prim.Native.Nat.{_+_, _*_, _/_, _≤_}
 use native.Mathlib.Nat.{div-le-self}

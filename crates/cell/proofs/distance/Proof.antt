@@ -1,3 +1,4 @@
+-- `cell::distance` meets its contract. Assumes nothing.
 use mathlib.Core.Path.{_∙_}
 use mathlib.Core.Bool.{Bool}
 use native.Mathlib.Nat.{lt-of-lt-of-le}

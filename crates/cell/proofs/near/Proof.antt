@@ -1,3 +1,4 @@
+-- `cell::near` meets its contract. Assumes nothing.
 use mir.Syntax.{w16}
 use Rattle.lent.proofs.Signed.{back}
 use Rattle.cell.proofs.Ends.{gap-test}

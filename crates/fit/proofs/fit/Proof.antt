@@ -1,3 +1,4 @@
+-- `fit::fit` meets its contract. Assumes nothing.
 use mathlib.Core.Path.{sym, _∙_}
 use Rattle.fit.proofs.Runs.{asks, assembles}
 use Rattle.fit.proofs.Whole.{refused, ran}

@@ -1,3 +1,4 @@
+-- `fit::fitted` meets its contract. Assumes nothing.
 use mathlib.Core.Path.{_∙_}
 use Rattle.fit.proofs.Parts.{searching, modelled}
 use borrow.Author.Needs.{needs}

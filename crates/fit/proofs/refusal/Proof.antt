@@ -1,3 +1,4 @@
+-- `fit::refusal` meets its contract. Assumes nothing.
 use Rattle.rules.specs.Refusals.{fitTable}
 use Rattle.table.proofs.Refusals.{row}
 use borrow.Author.Needs.{needs}

@@ -1,3 +1,4 @@
+-- `fit::settings` meets its contract. Assumes nothing.
 use Rattle.rules.specs.Refusals.{firstFitting}
 use borrow.Author.Needs.{needs}
 use Rattle.fit.proofs.settings.Statement.{statement}

@@ -1,3 +1,4 @@
+-- `keep::keep` meets its contract. Assumes nothing.
 use Rattle.keep.proofs.Whole.{kept-whole}
 use borrow.Author.Needs.{needs}
 use Rattle.keep.proofs.keep.Statement.{statement}

@@ -1,3 +1,4 @@
+-- `keep::keep_pixel` meets its contract. Assumes nothing.
 use Prim.Native.Nat.{_+_, _*_, _/_, _<_}
 use lib.ListN.{length}
 use native.Mathlib.Omega.{arith}

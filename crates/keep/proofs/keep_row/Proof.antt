@@ -1,3 +1,4 @@
+-- `keep::keep_row` meets its contract. Assumes nothing.
 use Rattle.keep.proofs.Steps.{still-sound}
 use Rattle.table.proofs.Turns.{turns-more}
 use borrow.Author.Needs.{needs}

@@ -1,3 +1,4 @@
+-- `keep::mark` meets its contract. Assumes nothing.
 use mathlib.Core.Path.{sym}
 use borrow.Author.Needs.{needs}
 use Rattle.keep.proofs.mark.Statement.{statement}

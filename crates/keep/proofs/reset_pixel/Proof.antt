@@ -1,3 +1,4 @@
+-- `keep::reset_pixel` meets its contract. Assumes nothing.
 use mathlib.Core.Path.{sym, _∙_}
 use borrow.Author.Tests.{eq-eqb, ne-eqb}
 use Rattle.keep.specs.Pass.{resetStep}

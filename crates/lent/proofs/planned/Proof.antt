@@ -1,3 +1,4 @@
+-- `lent::planned` meets its contract. Assumes nothing.
 use borrow.Author.Needs.{needs}
 use Rattle.lent.proofs.planned.Statement.{statement}
 use Rattle.lent.proofs.planned.Tie as tie

@@ -1,3 +1,4 @@
+-- `lent::size` meets its contract. Assumes nothing.
 use mathlib.Core.Path.{sym}
 use Rattle.lent.proofs.Numbers.{length-numbers}
 use Rattle.lent.proofs.size.Statement.{statement}

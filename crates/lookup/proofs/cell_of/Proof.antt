@@ -1,3 +1,4 @@
+-- `lookup::cell_of` meets its contract. Assumes nothing.
 use Rattle.lookup.proofs.cell_of.Statement.{statement}
 use Rattle.lookup.proofs.cell_of.Tie as tie
 

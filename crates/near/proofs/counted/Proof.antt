@@ -1,3 +1,4 @@
+-- `near::counted` meets its contract. Assumes nothing.
 use mathlib.Core.Path.{sym}
 use borrow.Author.Needs.{needs}
 use Rattle.near.proofs.counted.Statement.{statement}

@@ -1,3 +1,4 @@
+-- `near::is_set` meets its contract. Assumes nothing.
 use native.Mathlib.Omega.{arith}
 use mathlib.Core.Path.{sym, _∙_}
 use Rattle.near.proofs.Pixel.{pixel-in, model-is}

@@ -1,3 +1,4 @@
+-- `offsets::point_fits` meets its contract. Assumes nothing.
 use mir.Syntax.{w32}
 use Rattle.laws.proofs.Signed.{back}
 use borrow.Author.Needs.{needs}

@@ -1,3 +1,4 @@
+-- `offsets::stored_offset` meets its contract. Assumes nothing.
 use mir.Syntax.{w16}
 use Rattle.laws.proofs.Signed.{back}
 use borrow.Author.Needs.{needs}

@@ -1,3 +1,4 @@
+-- `plane::layered` meets its contract. Assumes nothing.
 use mathlib.Core.Path.{_∙_}
 use Rattle.plane.proofs.Laws.{halved}
 use borrow.Author.Needs.{needs}

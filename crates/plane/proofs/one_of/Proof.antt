@@ -1,3 +1,4 @@
+-- `plane::one_of` meets its contract. Assumes nothing.
 use borrow.Author.Tests.{eq-eqb, ne-eqb}
 use Rattle.plane.proofs.one_of.Statement.{statement}
 use Rattle.plane.proofs.one_of.Tie as tie

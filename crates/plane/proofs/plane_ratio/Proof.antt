@@ -1,3 +1,4 @@
+-- `plane::plane_ratio` meets its contract. Assumes nothing.
 use borrow.Author.Tests.{eq-eqb, ne-eqb}
 use Rattle.plane.proofs.plane_ratio.Statement.{statement}
 use Rattle.plane.proofs.plane_ratio.Tie as tie

@@ -1,3 +1,4 @@
+-- `plane::planed` meets its contract. Assumes nothing.
 use native.Mathlib.Nat.{zero-mul, zero-add}
 use borrow.Author.Needs.{needs}
 use Rattle.plane.proofs.planed.Statement.{statement}

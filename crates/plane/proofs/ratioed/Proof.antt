@@ -1,3 +1,4 @@
+-- `plane::ratioed` meets its contract. Assumes nothing.
 use borrow.Author.Needs.{needs}
 use Rattle.plane.proofs.ratioed.Statement.{statement}
 use Rattle.plane.proofs.ratioed.Tie as tie

@@ -1,3 +1,4 @@
+-- `refuse::lengths` meets its contract. Assumes nothing.
 use borrow.Author.Needs.{needs}
 use Rattle.refuse.proofs.lengths.Statement.{statement}
 use Rattle.refuse.proofs.lengths.Tie as tie

@@ -1,3 +1,4 @@
+-- `refuse::peel_refusal` meets its contract. Assumes nothing.
 use Rattle.rules.specs.Refusals.{peelRefusal, firstFitting}
 use Rattle.rules.specs.Forms.{each}
 use borrow.Author.Needs.{needs}

@@ -1,3 +1,4 @@
+-- `refuse::rows` meets its contract. Assumes nothing.
 use borrow.Author.Needs.{needs}
 use Rattle.refuse.proofs.rows.Statement.{statement}
 use Rattle.refuse.proofs.rows.Tie as tie

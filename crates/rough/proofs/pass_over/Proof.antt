@@ -1,3 +1,4 @@
+-- `rough::pass_over` meets its contract. Assumes nothing.
 use borrow.Author.Needs.{needs}
 use Rattle.rough.proofs.pass_over.Statement.{statement}
 use Rattle.rough.proofs.pass_over.Tie as tie

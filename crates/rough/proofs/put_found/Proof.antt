@@ -1,3 +1,4 @@
+-- `rough::put_found` meets its contract. Assumes nothing.
 use Prim.Native.Nat.{_<_, _*_}
 use native.Mathlib.Omega.{arith}
 use Rattle.rules.specs.Window.{fitted}

@@ -1,3 +1,4 @@
+-- `store::cell` meets its contract. Assumes nothing.
 use mathlib.Core.Path.{sym}
 use native.Mathlib.Nat.{mul-comm}
 use native.Mathlib.Omega.{arith}

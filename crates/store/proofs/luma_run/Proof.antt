@@ -1,3 +1,4 @@
+-- `store::luma_run` meets its contract. Assumes nothing.
 use mathlib.Core.Path.{_≡_, refl, _∙_}
 use Prim.Native.Nat.{_≤_, _-_}
 use native.Mathlib.Nat.{le-antisymm}

@@ -1,3 +1,4 @@
+-- `store::put_chroma` meets its contract. Assumes nothing.
 use Prim.Native.Nat.{_*_}
 use native.Mathlib.Nat.{add-zero}
 use mir.Facts.{toZ-ofZ}

@@ -1,3 +1,4 @@
+-- `store::put_luma` meets its contract. Assumes nothing.
 use mathlib.Core.Path.{_∙_}
 use Rattle.offsets.proofs.Signed.{stored-back}
 use Rattle.store.proofs.Luma.{gain-is, offset-is}

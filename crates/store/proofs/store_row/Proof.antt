@@ -1,3 +1,4 @@
+-- `store::store_row` meets its contract. Assumes nothing.
 use mathlib.Core.Path.{_≡_, _∙_}
 use Prim.Native.Nat.{_+_, _*_, _≤_}
 use native.Mathlib.Nat.{add-zero}

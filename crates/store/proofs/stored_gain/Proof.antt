@@ -1,3 +1,4 @@
+-- `store::stored_gain` meets its contract. Assumes nothing.
 use mir.Syntax.{w16}
 use Rattle.laws.proofs.Signed.{back}
 use borrow.Author.Needs.{needs}

@@ -1,3 +1,4 @@
+-- `table::exact_cover` meets its contract. Assumes nothing.
 use borrow.Author.Needs.{needs}
 use Rattle.table.proofs.exact_cover.Statement.{statement}
 use Rattle.table.proofs.exact_cover.Tie as tie
