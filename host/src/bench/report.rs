@@ -46,7 +46,7 @@ pub fn heading() -> String {
 }
 
 pub fn growth_heading() -> String {
-    heading().replace("## ", "## Growth with size, ")
+    "## Growth with size".to_owned()
 }
 
 /// The civil date of a day counted from 1970-01-01.
@@ -85,24 +85,50 @@ Rust, and the median of each. Outputs are not cleared between rounds. The Rust a
 into lent slices. Made by `cargo run --release --bin bench -- --write` in host/.
 ";
 
-/// Puts a section into the file, in place of one with the same heading.
+/// Puts a table into the file, under that heading.
 pub fn write(file: &Path, heading: &str, table: &str) -> io::Result<()> {
     let old = fs::read_to_string(file).unwrap_or_else(|_| INTRO.to_owned());
-    let mut parts = old.split("\n## ");
-    let mut text = parts.next().unwrap_or_default().trim_end().to_owned() + "\n";
-    let kept = parts.filter(|part| !heading.ends_with(part.lines().next().unwrap_or_default()));
-    for part in kept {
-        text += &format!("\n## {}\n", part.trim_end());
-    }
     if let Some(folder) = file.parent() {
         fs::create_dir_all(folder)?;
     }
-    fs::write(file, text + &format!("\n{heading}\n\n{table}"))
+    fs::write(file, with_table(&old, heading, table))
+}
+
+/// The text with that table in the section of that heading: in place of the lines from the section's own table on, so that
+/// the words before it stay; or in a section at the end.
+fn with_table(text: &str, heading: &str, table: &str) -> String {
+    let mut sections: Vec<String> = text.split("\n## ").map(str::to_owned).collect();
+    let name = heading.trim_start_matches("## ");
+    let at = sections
+        .iter()
+        .position(|section| section.lines().next() == Some(name))
+        .unwrap_or_else(|| {
+            sections.push(format!("{name}\n\n"));
+            sections.len() - 1
+        });
+    let words = sections[at]
+        .find("\n| ")
+        .map_or(sections[at].len(), |place| place + 1);
+    sections[at].truncate(words);
+    sections[at] += table;
+    let sections: Vec<&str> = sections.iter().map(|section| section.trim_end()).collect();
+    sections.join("\n\n## ") + "\n"
 }
 
 #[cfg(test)]
 mod tests {
-    use super::date;
+    use super::{date, with_table};
+
+    #[test]
+    fn a_table_takes_its_own_place() {
+        let text = "# Title\n\nWords.\n\n## First\n\n| a |\n| 1 |\n\n## Growth, First\n\nMore.\n\n| b |\n| 2 |\n";
+        let first = with_table(text, "## First", "| a |\n| 3 |\n");
+        assert_eq!(first, text.replace("| 1 |", "| 3 |"));
+        let growth = with_table(&first, "## Growth, First", "| b |\n| 4 |\n");
+        assert_eq!(growth, first.replace("| 2 |", "| 4 |"));
+        let new = with_table(text, "## New", "| c |\n");
+        assert_eq!(new, text.to_owned() + "\n## New\n\n| c |\n");
+    }
 
     #[test]
     fn dates() {
