@@ -3,12 +3,10 @@
 use motion::Carried;
 use motion::Grid;
 use rules::Taps;
-ghost use mathlib.Core.Path.{_≡_};
 ghost use Prim.Native.Nat.{_+_, _*_, _<_, _≤_};
 ghost use lib.ListN.{getD};
 ghost use lib.Ieee.{nan};
 ghost use Rattle.rules.specs.Float.{float, cut, _⊕_};
-ghost use Rattle.rules.specs.Motion.{rowTaps};
 ghost use Rattle.rules.specs.Reading.{sample as sampleOf, heldTo};
 ghost use Rattle.sample.specs.Points.{PlaneFits};
 ghost use Rattle.motion.specs.Moves.{motionOf, laidOut, placeOf, Laid, Moves, Rows, Holds};

@@ -1,7 +1,7 @@
 // The chessboard distance transform of Rosenfeld and Pfaltz, in two passes over the complete rows.
 use rules::Answer;
 ghost use mathlib.Core.Path.{_≡_};
-ghost use Prim.Native.Nat.{_+_, _-_, _*_, _/_, _≤_, _<_, min};
+ghost use Prim.Native.Nat.{_+_, _-_, _/_, _≤_, _<_, min};
 ghost use lib.ListN.{length};
 ghost use Rattle.rules.specs.Distances.{whole};
 ghost use Rattle.distances.specs.Call.{Done};

@@ -1,6 +1,5 @@
 // Demand 3 of the exported calls: its statement stands in specs/, its proof in proofs/.
 // The functions hold the statement's hypotheses to the exported calls: each is such a call, and its contract is in the statement's words.
-ghost use Rattle.rules.specs.Calls.{FitCall};
 ghost use Rattle.rules.specs.Host.{numbers};
 ghost use Rattle.host.specs.Lent.{layer as layerOf, plane as planeOf, frames as framesOf, motion as motionOf, part as partOf, parts as partsOf, stored as fitOf};
 ghost use Rattle.evidence.specs.Evidence.{peelLuma, unpeelLuma, renderPlane};

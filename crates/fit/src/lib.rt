@@ -5,7 +5,6 @@ use rules::Answer;
 ghost use mathlib.Core.Path.{_≡_};
 ghost use mathlib.Core.Bool.{true};
 ghost use mathlib.Core.List.{_∷_, []};
-ghost use Prim.Native.Nat.{_*_};
 ghost use Rattle.rules.specs.Float.{within as withinOf};
 ghost use Rattle.rules.specs.Domain.{areSums};
 ghost use Rattle.rules.specs.Refusals.{_unless_, firstFitting, isNeighbour, fitTable};

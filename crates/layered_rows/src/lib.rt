@@ -1,8 +1,7 @@
 // A pass of peel or unpeel over a plane: row by row, and in a row run by run of near cells.
 use layered::Work;
 use lent::Plan;
-ghost use mathlib.Core.Path.{_≡_};
-ghost use Prim.Native.Nat.{_+_, _*_, _/_, _≤_, _<_};
+ghost use Prim.Native.Nat.{_≤_, _<_};
 ghost use Rattle.plane.specs.Done.{RowDone, RowsDone};
 ghost use Rattle.lent.specs.Lent.{lent, lay, Planned, chromaLong};
 ghost use Rattle.texel.specs.Fixed.{Fixed};

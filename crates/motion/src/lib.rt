@@ -2,7 +2,7 @@
 use rules::Steps;
 use rules::Taps;
 ghost use mathlib.Core.Path.{_≡_};
-ghost use Prim.Native.Nat.{_*_, _<_, _≤_};
+ghost use Prim.Native.Nat.{_<_, _≤_};
 ghost use lib.IntN.{natAbs};
 ghost use Rattle.rules.specs.Literals.{1·0};
 ghost use Rattle.rules.specs.Float.{signed, float, _⊗_, _⊘_};

@@ -1,7 +1,7 @@
 // The refusals of the calls over a layer: straight lines, row by row.
 use lent::Shape;
 ghost use mathlib.Core.Path.{_≡_};
-ghost use mathlib.Core.Bool.{_&&_, true};
+ghost use mathlib.Core.Bool.{_&&_};
 ghost use Prim.Native.Nat.{_/_};
 ghost use Rattle.rules.specs.Domain.{isPitch, isPlane, layerLengths};
 ghost use Rattle.rules.specs.Refusals.{emptyRefusal, peelRefusal, unpeelRefusal};

@@ -6,7 +6,7 @@ use plane::Change;
 use rules::Steps;
 use rules::Taps;
 ghost use mathlib.Core.Path.{_≡_};
-ghost use Prim.Native.Nat.{_+_, _≤_, _<_};
+ghost use Prim.Native.Nat.{_+_};
 ghost use Rattle.rules.specs.Reading.{gap as gapOf, distance as distanceOf};
 ghost use Rattle.plane.specs.Done.{RowDone, RowsDone};
 ghost use Rattle.lent.specs.Lent.{Inside};

@@ -3,7 +3,7 @@ use lent::Plan;
 use rules::Ring;
 use rules::Scene;
 ghost use mathlib.Core.Path.{_≡_};
-ghost use Prim.Native.Nat.{_%_, _/_, _<_, _≤_};
+ghost use Prim.Native.Nat.{_<_, _≤_};
 ghost use Rattle.rules.specs.Float.{cut, _⊗_, _⊕_};
 ghost use Rattle.rules.specs.Scene.{under as underOf, sign as signOf, gathered as gatheredOf, stepped, filled as filledOf, ring as ringOf};
 ghost use Rattle.sample.specs.Points.{Held};

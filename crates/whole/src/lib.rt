@@ -3,12 +3,11 @@ use lent::Plan;
 use rules::Ring;
 use rules::Scene;
 ghost use mathlib.Core.Path.{_≡_};
-ghost use Prim.Native.Nat.{_*_, _/_, _<_, _≤_};
-ghost use lib.Dec.{eqb};
+ghost use Prim.Native.Nat.{_/_, _<_, _≤_};
 ghost use Rattle.rules.specs.Float.{float};
 ghost use Rattle.rules.specs.Reading.{at, texel};
 ghost use Rattle.rules.specs.Scene.{lift, gathered, filled};
-ghost use Rattle.lent.specs.Lent.{lent, lay, Sound, Inside};
+ghost use Rattle.lent.specs.Lent.{lent, lay, Inside};
 ghost use Rattle.stored.specs.Stored.{Summed};
 ghost use Rattle.whole.specs.Rings.{Ready, heldAt, seen, gatheredOn, rowRing, wholeRing};
 

@@ -1,11 +1,10 @@
 -- `gather::add_run` meets its contract. Assumes nothing.
 use borrow.Author.Needs.{needs}
-use mathlib.Core.Path.{_≡_, refl, ap, _∙_}
-use mathlib.Core.List.{List}
+use mathlib.Core.Path.{_≡_, refl, _∙_}
 use Prim.Native.Nat.{zero-le, _+_, _-_, _*_, _≤_, _<_}
 use native.Mathlib.Nat.{le-antisymm, lt-of-lt-of-le}
 use native.Mathlib.Omega.{arith}
-use lib.Ieee.{Float, nan}
+use lib.Ieee.{nan}
 use lib.ListN.{length, getD}
 use Rattle.rules.specs.Reading.{at}
 use Rattle.rules.specs.Stats.{sixTerms}
@@ -22,30 +21,34 @@ Inv-loop sums₀ place many pairs first first-pitch second second-pitch x y n pb
 abbrev μ-loop : tie.MeasureT-loop
 μ-loop sums₀ place many pairs first first-pitch second second-pitch x y n pb pa at₀ k₀ sums at' k = n - k
 
+-- where the function starts, seen from a turn
+abbrev start : tie.In-loop Inv-loop μ-loop → tie.Start Inv-loop μ-loop
+start test = test .before .before .before .before .before
+
 loop-holds : tie.Need-loop-holds Inv-loop μ-loop
 loop-holds c = (run-none _ _ _ _ _, first-place _ _, zero-le, refl)
 
 at-requires : tie.Need-at-requires Inv-loop μ-loop
-at-requires c κs = in-part (c .before .loop .k) (c .before .before .before .before .before .pre .1) (c .loop-test .taken)
+at-requires c κs = in-part (c .before .loop .k) (start c .pre .1) (c .loop-test .taken)
 
 at-requires-2 : tie.Need-at-requires-2 Inv-loop μ-loop
-at-requires-2 c κs = in-part (c .before .before .loop .k) (c .before .before .before .before .before .before .pre .0) (c .before .loop-test .taken)
+at-requires-2 c κs = in-part (c .before .before .loop .k) (start (c .before) .pre .0) (c .before .loop-test .taken)
 
 -- this turn's pixel is one of 32
 turn : (c : tie.After-at2 Inv-loop μ-loop) → c .before .before .before .loop .k < 32
-turn c = let test = c .before .before in lt-of-lt-of-le (test .loop-test .taken) (test .before .before .before .before .before .pre .3)
+turn c = let test = c .before .before in lt-of-lt-of-le (test .loop-test .taken) (start test .pre .3)
 
 add-terms-requires : tie.Need-add-terms-requires Inv-loop μ-loop
 add-terms-requires c κs =
     let test = c .before .before .before .before in
-    let s = test .before .before .before .before .before in
+    let s = start test in
     let l = test .before .loop in
     (s .pre .2, omega (arith, s .pre .4, l .inv .1, l .inv .3, one-room (s .args .many) (l .k) (s .args .n) (test .loop-test .taken)))
 
 add-at-3 : tie.Need-add-at-3 Inv-loop μ-loop
 add-at-3 c =
     let test = c .before .before .before .before .before .before .before in
-    let s = test .before .before .before .before .before in
+    let s = start test in
     let l = test .before .loop in
     omega (arith, s .pre .4, l .inv .1, one-room (s .args .many) (l .k) (s .args .n) (test .loop-test .taken), s .good .0 .0)
 
@@ -54,7 +57,7 @@ loop-again c =
     let stored = c .before .before in
     let termed = stored .before .before in
     let test = termed .before .before .before in
-    let s = test .before .before .before .before .before in
+    let s = start test in
     let l = test .before .loop in
     let a = s .args in (
       run-more (a .pairs) (a .many) _ (a .place) (l .k) (l .at) (a .sums .now) (l .sums) _ _ (l .inv .0) (l .inv .1) (rw (termed .six-terms .ensures, termed .before .at2 .ensures, termed .before .before .at .ensures)) (stored .add-terms .ensures),
@@ -70,7 +73,7 @@ pub add-run-spec : {M : Type 1} → statement M
 add-run-spec =
     tie.close
     (tie.spec Inv-loop μ-loop loop-holds
-    (λ c. omega (arith, c .before .before .before .before .before .pre .1 .across, c .loop-test .taken)) at-requires
-    (λ c. omega (arith, c .before .before .before .before .before .before .pre .1 .across, c .before .loop-test .taken)) at-requires-2
+    (λ c. omega (arith, start c .pre .1 .across, c .loop-test .taken)) at-requires
+    (λ c. omega (arith, start (c .before) .pre .1 .across, c .before .loop-test .taken)) at-requires-2
     (λ c. omega (arith, turn c)) turn (λ c. omega (arith, turn c)) turn (λ c κs. search needs)
     add-terms-requires add-at-3 (λ c. omega (arith, turn (c .before .before .before .before .before))) (λ c. search needs) loop-again (λ c. search needs) returns)

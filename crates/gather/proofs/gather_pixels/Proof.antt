@@ -21,40 +21,44 @@ Inv-loop sums₀ place many pairs first first-pitch second second-pitch forward-
 abbrev μ-loop : tie.MeasureT-loop
 μ-loop sums₀ place many pairs first first-pitch second second-pitch forward-x forward-y backward-x backward-y grid width height ratio down y held₀ k₀ x₀ sums held k x = width - x
 
+-- where the function starts, seen from a turn's run
+abbrev start : tie.After-run-length Inv-loop μ-loop → tie.Start Inv-loop μ-loop
+start run = run .before .before .before .before .before .before .before .before .before .before
+
 loop-holds : tie.Need-loop-holds Inv-loop μ-loop
 loop-holds c =
     let s = c .before .before .before .before .before .before .before in
     (row-none _ _ _ _ _ _, first-place _ _, zero-le, refl, s .pre .2 .holds)
 
 -- a run ends within the row, and its places within the sums
-ahead : (c : tie.After-run-length Inv-loop μ-loop) → c .before .before .loop .x + c .run-length .result ≤ c .before .before .before .before .before .before .before .before .before .before .args .width
+ahead : (c : tie.After-run-length Inv-loop μ-loop) → c .before .before .loop .x + c .run-length .result ≤ start c .args .width
 ahead c = omega (arith, c .run-length .ensures .within, c .before .loop-test .taken)
 
-placed : (c : tie.After-run-length Inv-loop μ-loop) → c .before .before .loop .k + c .before .before .before .before .before .before .before .before .before .before .args .many * c .run-length .result ≤ length (c .before .before .before .before .before .before .before .before .before .before .args .sums .now)
+placed : (c : tie.After-run-length Inv-loop μ-loop) → c .before .before .loop .k + start c .args .many * c .run-length .result ≤ length (start c .args .sums .now)
 placed c =
-    let s = c .before .before .before .before .before .before .before .before .before .before in
+    let s = start c in
     let l = c .before .before .loop in
     omega (arith, s .pre .3, l .inv .1, room (s .args .many) (l .x) _ (s .args .width) (ahead c))
 
 gather-run-requires : tie.Need-gather-run-requires Inv-loop μ-loop
 gather-run-requires c κs =
     let run = c .before in
-    let s = run .before .before .before .before .before .before .before .before .before .before in
+    let s = start run in
     let inv = run .before .before .loop .inv in
     let started = s .pre .2 in
     (s .pre .0, s .pre .1, record { rows = started .rows; holds = inv .4; low = started .low }, ahead run, run .run-length .ensures .few, omega (arith, placed run, inv .3))
 
 mul-k : tie.Need-mul-k Inv-loop μ-loop
-mul-k c = omega (arith, placed (c .before .before .before .before), c .before .before .before .before .before .before .before .before .before .before .before .before .before .before .good .0 .0)
+mul-k c = let run = c .before .before .before .before in omega (arith, placed run, start run .good .0 .0)
 
 add-k : tie.Need-add-k Inv-loop μ-loop
-add-k c = omega (arith, placed (c .before .before .before .before), c .before .before .before .before .before .before .before .before .before .before .before .before .before .before .good .0 .0)
+add-k c = let run = c .before .before .before .before in omega (arith, placed run, start run .good .0 .0)
 
 add-x : tie.Need-add-x Inv-loop μ-loop
-add-x c = omega (arith, ahead (c .before .before .before .before), c .before .before .before .before .before .before .before .before .before .before .before .before .before .before .pre .0 .first-fits .wide .1)
+add-x c = let run = c .before .before .before .before in omega (arith, ahead run, start run .pre .0 .first-fits .wide .1)
 
 loop-less : tie.Need-loop-less Inv-loop μ-loop
-loop-less c = omega (arith, c .before .before .before .before .run-length .ensures .some, c .before .before .before .before .before .loop-test .taken)
+loop-less c = let run = c .before .before .before .before in omega (arith, run .run-length .ensures .some, run .before .loop-test .taken)
 
 loop-again : tie.Need-loop-again Inv-loop μ-loop
 loop-again c =
@@ -62,7 +66,7 @@ loop-again c =
     let run = c .before .before .before .before in
     let l = run .before .before .loop in
     let inv = l .inv in
-    let a = run .before .before .before .before .before .before .before .before .before .before .args in (
+    let a = start run .args in (
       row-more (a .pairs) (a .many) _ (a .y) (a .place) (l .x) (run .run-length .result) (l .k) (a .sums .now) (l .sums) _ (inv .0) (inv .1) (done .ensures .sums),
       next (a .many) (l .x) _ (a .place) (l .k) (inv .1),
       ahead run,
