@@ -70,43 +70,84 @@ impl fmt::Display for Error {
 
 impl std::error::Error for Error {}
 
+/// A number as the caller gave it.
+#[derive(Clone, Copy, Debug, PartialEq)]
+pub(crate) enum Number {
+    Size(usize),
+    Int(i32),
+    Float(f32),
+}
+
+impl fmt::Display for Number {
+    fn fmt(&self, f: &mut fmt::Formatter<'_>) -> fmt::Result {
+        match self {
+            Number::Size(number) => number.fmt(f),
+            Number::Int(number) => number.fmt(f),
+            Number::Float(number) => number.fmt(f),
+        }
+    }
+}
+
 /// An argument that is not as it has to be.
 #[derive(Clone, Copy, Debug, PartialEq)]
 pub(crate) enum Fault {
-    Outside(&'static str, f64, [f64; 2]),
+    Outside(&'static str, Number, [Number; 2]),
+    Zero(&'static str),
     Short(&'static str, usize, usize),
     Inexact(&'static str, usize, usize),
+    Field(&'static str, usize, (usize, usize)),
+    NoRatio(usize),
     Undivided(Size, usize),
     Pel(i32),
-    Unlike(&'static str),
-    Step(&'static str, usize, usize, Size),
+    Full(usize),
+    Unlike(&'static str, &'static str),
+    OtherSize(&'static str, Size, Size),
+    StepAcross(usize, usize),
+    StepDown(usize, usize, usize),
 }
 
 impl fmt::Display for Fault {
     fn fmt(&self, f: &mut fmt::Formatter<'_>) -> fmt::Result {
         match *self {
-            Fault::Outside(name, value, [low, f64::INFINITY]) => {
-                write!(f, "{name} is {value} and must be at least {low}")
-            }
             Fault::Outside(name, value, [low, high]) => {
                 write!(f, "{name} is {value} and must be {low} to {high}")
             }
+            Fault::Zero(name) => write!(f, "{name} is 0 and must be at least 1"),
             Fault::Short(name, has, needs) => {
                 write!(f, "`{name}` has {has} elements and needs at least {needs}")
             }
             Fault::Inexact(name, has, needs) => {
                 write!(f, "`{name}` has {has} elements and must have exactly {needs}")
             }
+            Fault::Field(name, has, (width, height)) => write!(
+                f,
+                "`{name}` has {has} elements and must have one for each block of a grid of {width} by {height}"
+            ),
+            Fault::NoRatio(ratio) => write!(f, "ratio is {ratio} and must be 1, 2 or 4"),
             Fault::Undivided(size, ratio) => {
                 let Size { width, height } = size;
                 write!(f, "ratio {ratio} does not divide {width} by {height}")
             }
-            Fault::Step(name, across, length, Size { width, height }) => write!(
+            Fault::StepAcross(across, width) => write!(
                 f,
-                "the mask has {length} elements in rows of {across}, and {name} is not 1 to 8 times that of a plane of \
-                 {width} by {height}"
+                "the mask has rows of {across} and must have rows of 1 to 8 times {width}, the plane's width"
             ),
-            Fault::Unlike(name) => write!(f, "`{name}` has another size or ratio than `own`"),
+            Fault::StepDown(length, across, height) => write!(
+                f,
+                "the mask has {length} elements and must have whole rows of {across}: 1 to 8 times {height}, the plane's \
+                 height, of them"
+            ),
+            Fault::Full(pairs) => {
+                write!(f, "the sums hold {pairs} pairs already, and take 12 at most")
+            }
+            Fault::Unlike(name, than) => {
+                write!(f, "`{name}` has another size or ratio than {than}")
+            }
+            Fault::OtherSize(name, is, must) => write!(
+                f,
+                "`{name}` is {} by {} and must be {} by {}",
+                is.width, is.height, must.width, must.height
+            ),
             Fault::Pel(pel) => write!(f, "pel is {pel} and must be 1, 2 or 4"),
         }
     }

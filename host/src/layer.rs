@@ -24,7 +24,7 @@ macro_rules! layer {
 layer! {
     /// A layer to read: what lettering does to each pixel, and how far the next lettering is.
     ///
-    /// Its numbers are lent as they are ([`Layer`]), or as bytes ([`LayerBytes`]). `luma` holds all gains (in 4096ths),
+    /// Its numbers are lent as they are (`T` is `i16`: [`Layer`]), or as bytes (`T` is `u8`: [`LayerBytes`]). `luma` holds all gains (in 4096ths),
     /// then all offsets (in 64ths); each chroma slice holds the offsets of its plane, and the second half of `chroma[1]`
     /// the distances of the 8 by 8 cells, a row of them in each chroma row.
     LayerOf, Ratio
@@ -103,10 +103,17 @@ pub struct LayerBuf {
 impl LayerBuf {
     /// A layer of zeros, to be filled by `fit` or `assemble`.
     ///
+    /// It is not empty: every cell is marked (distance 0), and every pixel has gain 0.
+    ///
     /// # Errors
     /// `Refusal::Size` and `Refusal::Ratio`, as in every call.
     pub fn new(size: Size, ratio: Ratio) -> Result<Self> {
-        let numbers = Numbers::zeros(2, size, ratio, "LayerBuf::new")?;
+        Self::zeros(size, ratio, "LayerBuf::new")
+    }
+
+    /// The same for the call of that name.
+    pub(crate) fn zeros(size: Size, ratio: Ratio, call: &'static str) -> Result<Self> {
+        let numbers = Numbers::zeros(2, size, ratio, call)?;
         Ok(Self { numbers })
     }
 

@@ -1,4 +1,4 @@
-use crate::{Channel, Error, Frame, Plane, Refusal, Result, Size};
+use crate::{Channel, Error, Frame, Plane, Ratio, Refusal, Result, Size};
 
 /// Motion between two frames: two fields each way over a grid of blocks, 1024 being no motion.
 ///
@@ -48,23 +48,14 @@ impl MotionBuf {
     pub fn pan(size: Size, (right, down): (i32, i32)) -> Result<Self> {
         let call = "MotionBuf::pan";
         size.pixels(call)?;
-        let grid = (
-            size.width.div_ceil(Self::BLOCK),
-            size.height.div_ceil(Self::BLOCK),
-        );
-        let field = |pixels: i32| {
+        for (name, pixels) in [("right", right), ("down", down)] {
             if !(-1024..=1024).contains(&pixels) {
                 return Err(Error::of(call, Refusal::Motion, |search| {
-                    search.pan(pixels)
+                    search.pan(name, pixels)
                 }));
             }
-            Ok(vec![(1024 + pixels) as u16; grid.0 * grid.1])
-        };
-        Ok(Self {
-            forward: (field(-right)?, field(-down)?),
-            backward: (field(right)?, field(down)?),
-            grid,
-        })
+        }
+        Ok(Self::everywhere(size, (right, down)))
     }
 
     /// No motion anywhere.
@@ -72,7 +63,22 @@ impl MotionBuf {
     /// # Errors
     /// `Refusal::Size`.
     pub fn still(size: Size) -> Result<Self> {
-        Self::pan(size, (0, 0))
+        size.pixels("MotionBuf::still")?;
+        Ok(Self::everywhere(size, (0, 0)))
+    }
+
+    /// For a size and a motion that are known to be inside the limits.
+    fn everywhere(size: Size, (right, down): (i32, i32)) -> Self {
+        let grid = (
+            size.width.div_ceil(Self::BLOCK),
+            size.height.div_ceil(Self::BLOCK),
+        );
+        let field = |pixels: i32| vec![(1024 + pixels) as u16; grid.0 * grid.1];
+        Self {
+            forward: (field(-right), field(-down)),
+            backward: (field(right), field(down)),
+            grid,
+        }
     }
 
     /// The motion to read.
@@ -91,6 +97,8 @@ impl MotionBuf {
 }
 
 /// One plane of two neighbouring frames, and the time between them.
+///
+/// A plane does not say its size. The calls take the layer's, and of a larger plane they read the upper left corner.
 #[derive(Clone, Copy, Debug)]
 pub struct Frames<'a> {
     /// The plane of the first frame.
@@ -103,17 +111,33 @@ pub struct Frames<'a> {
 
 impl<'a> Frames<'a> {
     /// One plane of each of two frames.
-    #[must_use]
-    pub fn of(channel: Channel, first: &'a Frame, second: &'a Frame, time: f32) -> Self {
-        Self {
+    ///
+    /// # Errors
+    /// `Refusal::Size` for frames of different sizes or ratios. Whether their size is the layer's is not known here.
+    pub fn of(channel: Channel, first: &'a Frame, second: &'a Frame, time: f32) -> Result<Self> {
+        alike("Frames::of", first, second)?;
+        Ok(Self {
             first: first[channel].plane(),
             second: second[channel].plane(),
             time,
-        }
+        })
     }
 }
 
+/// Refuses frames of different sizes or ratios.
+fn alike(call: &'static str, first: &Frame, second: &Frame) -> Result<()> {
+    if first.is_like(second) {
+        return Ok(());
+    }
+    Err(Error::of(call, Refusal::Size, |search| {
+        search.unlike("second", "`first`")
+    }))
+}
+
 /// Two neighbouring frames with the motion between them.
+///
+/// A plane does not say its size. [`stats`](crate::stats) takes the sums', and of a larger plane it reads the upper left
+/// corner.
 #[derive(Clone, Copy, Debug)]
 pub struct Pair<'a> {
     /// The three planes of the first frame.
@@ -122,16 +146,31 @@ pub struct Pair<'a> {
     pub second: [Plane<'a>; 3],
     /// The motion between them.
     pub motion: Motion<'a>,
+    /// What the planes were lent as, where that is known.
+    pub(crate) known: Option<(Size, Ratio)>,
 }
 
 impl<'a> Pair<'a> {
-    /// All planes of two frames.
+    /// Two frames by their planes.
     #[must_use]
-    pub fn of(first: &'a Frame, second: &'a Frame, motion: &'a MotionBuf) -> Self {
+    pub const fn new(first: [Plane<'a>; 3], second: [Plane<'a>; 3], motion: Motion<'a>) -> Self {
         Self {
-            first: first.planes(),
-            second: second.planes(),
-            motion: motion.motion(),
+            first,
+            second,
+            motion,
+            known: None,
         }
+    }
+
+    /// All planes of two frames. [`Sums::add`](crate::Sums::add) holds their size and ratio against its own.
+    ///
+    /// # Errors
+    /// `Refusal::Size` for frames of different sizes or ratios.
+    pub fn of(first: &'a Frame, second: &'a Frame, motion: &'a MotionBuf) -> Result<Self> {
+        alike("Pair::of", first, second)?;
+        Ok(Self {
+            known: Some((first.size(), first.ratio())),
+            ..Self::new(first.planes(), second.planes(), motion.motion())
+        })
     }
 }

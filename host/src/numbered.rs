@@ -13,7 +13,7 @@ macro_rules! numbered {
 
         impl $name {
             /// All of them, in the order of their numbers.
-            pub const ALL: [Self; [$($number),*].len()] = [$(Self::$variant),*];
+            pub const ALL: &'static [Self] = &[$(Self::$variant),*];
 
             /// Its number.
             #[must_use]
@@ -24,7 +24,7 @@ macro_rules! numbered {
             /// The one of that number.
             #[must_use]
             pub fn of_number(number: $kind) -> Option<Self> {
-                Self::ALL.into_iter().find(|one| one.number() == number)
+                Self::ALL.iter().copied().find(|one| one.number() == number)
             }
         }
     };

@@ -1,4 +1,4 @@
-use std::ops::{Index, IndexMut};
+use std::ops::Index;
 
 use crate::{Error, Refusal, Result};
 
@@ -43,9 +43,12 @@ impl Size {
     }
 
     /// The number of bytes of a cover: one for each 8 by 8 cell, begun ones included.
+    ///
+    /// For a size that no call takes it is at most `usize::MAX`.
     #[must_use]
     pub const fn cells(self) -> usize {
-        self.width.div_ceil(8) * self.height.div_ceil(8)
+        let down = self.height.div_ceil(8);
+        self.width.div_ceil(8).saturating_mul(down)
     }
 
     /// Whether the ratio divides both sides.
@@ -95,10 +98,16 @@ impl TryFrom<usize> for Ratio {
     /// use safeteal::{Ratio, Refusal};
     ///
     /// assert_eq!(Ratio::try_from(2), Ok(Ratio::Two));
-    /// assert_eq!(Ratio::try_from(3).unwrap_err().refusal(), Refusal::Ratio);
+    /// let error = Ratio::try_from(3).unwrap_err();
+    /// assert_eq!(error.refusal(), Refusal::Ratio);
+    /// assert_eq!(error.to_string(), "Ratio::try_from refused (2): ratio is 3 and must be 1, 2 or 4");
     /// ```
     fn try_from(number: usize) -> Result<Self> {
-        let none = || Error::of("Ratio::try_from", Refusal::Ratio, |search| search);
+        let none = || {
+            Error::of("Ratio::try_from", Refusal::Ratio, |search| {
+                search.no_ratio(number)
+            })
+        };
         Self::of_number(number).ok_or_else(none)
     }
 }
@@ -229,18 +238,22 @@ impl PlaneBuf {
     /// Where there is no such row.
     #[must_use]
     pub fn row(&self, y: usize) -> &[u8] {
-        &self.data[y * self.size.width..][..self.size.width]
+        let Size { width, height } = self.size;
+        assert!(y < height, "row {y} of a plane that has {height} rows");
+        &self.data[y * width..][..width]
     }
 }
 
-/// A frame: three planes with buffers of their own, taken by their [`Channel`].
+/// A frame: three planes with buffers of their own, read by their [`Channel`].
+///
+/// Their bytes can be written, but no plane can be replaced by one of another size.
 ///
 /// ```
 /// use safeteal::{Channel, Frame, Ratio, Size};
 ///
 /// let mut frame = Frame::new(Size::new(8, 4), Ratio::Two, [16, 128, 128])?;
 /// assert_eq!(frame[Channel::Chroma1].size(), Size::new(4, 2));
-/// frame[Channel::Luma].bytes_mut().fill(235);
+/// frame.bytes_mut(Channel::Luma).fill(235);
 /// assert_eq!(frame.planes()[0].data, [235; 32]);
 /// let error = Frame::new(Size::new(5, 4), Ratio::Two, [0; 3]).unwrap_err();
 /// assert_eq!(error.to_string(), "Frame::new refused (2): ratio 2 does not divide 5 by 4");
@@ -261,17 +274,63 @@ impl Frame {
         size.pixels_of(ratio, "Frame::new")?;
         let plane =
             |channel: Channel| PlaneBuf::new(size.plane(channel, ratio), colour[channel.number()]);
-        let [luma, chroma1, chroma2] = Channel::ALL.map(plane);
-        Ok(Self {
-            planes: [luma?, chroma1?, chroma2?],
-            ratio,
-        })
+        let planes = [
+            plane(Channel::Luma)?,
+            plane(Channel::Chroma1)?,
+            plane(Channel::Chroma2)?,
+        ];
+        Ok(Self { planes, ratio })
+    }
+
+    /// A frame of these planes: luma, then the two of chroma.
+    ///
+    /// ```
+    /// use safeteal::{Frame, PlaneBuf, Ratio, Size};
+    ///
+    /// let plane = |width, height| PlaneBuf::new(Size::new(width, height), 128);
+    /// let frame = Frame::from_planes([plane(8, 4)?, plane(4, 2)?, plane(4, 2)?], Ratio::Two)?;
+    /// assert_eq!(frame.size(), Size::new(8, 4));
+    /// let error = Frame::from_planes([plane(8, 4)?, plane(4, 2)?, plane(8, 4)?], Ratio::Two).unwrap_err();
+    /// assert_eq!(
+    ///     error.to_string(),
+    ///     "Frame::from_planes refused (1): `planes[2]` is 8 by 4 and must be 4 by 2"
+    /// );
+    /// # Ok::<(), safeteal::Error>(())
+    /// ```
+    ///
+    /// # Errors
+    /// `Refusal::Ratio`; `Refusal::Size` for a chroma plane of another size than luma and the ratio give.
+    pub fn from_planes(planes: [PlaneBuf; 3], ratio: Ratio) -> Result<Self> {
+        let call = "Frame::from_planes";
+        let luma = planes[0].size;
+        luma.pixels_of(ratio, call)?;
+        let chroma = luma.plane(Channel::Chroma1, ratio);
+        for (name, plane) in [("planes[1]", &planes[1]), ("planes[2]", &planes[2])] {
+            if plane.size != chroma {
+                return Err(Error::of(call, Refusal::Size, |search| {
+                    search.other_size(name, plane.size, chroma)
+                }));
+            }
+        }
+        Ok(Self { planes, ratio })
     }
 
     /// The three planes to read.
     #[must_use]
     pub fn planes(&self) -> [Plane<'_>; 3] {
         self.planes.each_ref().map(PlaneBuf::plane)
+    }
+
+    /// One plane to write.
+    #[must_use]
+    pub fn plane_mut(&mut self, channel: Channel) -> PlaneMut<'_> {
+        self.planes[channel.number()].plane_mut()
+    }
+
+    /// All bytes of one plane to write, row after row.
+    #[must_use]
+    pub fn bytes_mut(&mut self, channel: Channel) -> &mut [u8] {
+        self.planes[channel.number()].bytes_mut()
     }
 
     /// The size of luma.
@@ -285,6 +344,11 @@ impl Frame {
     pub fn ratio(&self) -> Ratio {
         self.ratio
     }
+
+    /// Whether both frames have one size and one ratio.
+    pub(crate) fn is_like(&self, other: &Frame) -> bool {
+        (self.size(), self.ratio) == (other.size(), other.ratio)
+    }
 }
 
 impl Index<Channel> for Frame {
@@ -292,12 +356,6 @@ impl Index<Channel> for Frame {
 
     fn index(&self, channel: Channel) -> &PlaneBuf {
         &self.planes[channel.number()]
-    }
-}
-
-impl IndexMut<Channel> for Frame {
-    fn index_mut(&mut self, channel: Channel) -> &mut PlaneBuf {
-        &mut self.planes[channel.number()]
     }
 }
 
@@ -315,5 +373,30 @@ impl<'a> Mask<'a> {
     #[must_use]
     pub const fn new(data: &'a [u8], width: usize) -> Self {
         Self { data, width }
+    }
+}
+
+#[cfg(test)]
+mod tests {
+    use super::*;
+
+    #[test]
+    fn the_cells_of_any_size() {
+        assert_eq!(Size::new(9, 8).cells(), 2);
+        assert_eq!(Size::new(usize::MAX, usize::MAX).cells(), usize::MAX);
+    }
+
+    #[test]
+    #[should_panic(expected = "row 2 of a plane that has 2 rows")]
+    fn a_row_below_the_plane() {
+        let plane = PlaneBuf::new(Size::new(3, 2), 0).expect("a small plane");
+        let _ = plane.row(2);
+    }
+
+    #[test]
+    #[should_panic(expected = "of a plane that has 2 rows")]
+    fn a_row_whose_place_is_no_number() {
+        let plane = PlaneBuf::new(Size::new(2, 2), 0).expect("a small plane");
+        let _ = plane.row(usize::MAX / 2 + 1);
     }
 }

@@ -14,7 +14,8 @@ numbered! {
     #[non_exhaustive]
     #[repr(u8)]
     pub enum Refusal: u8 {
-        /// 1: a width or height outside 1 to 4096.
+        /// 1: a width or height outside 1 to 4096 (to [`distances`](crate::distances): a width of 0); or frames, sums or
+        /// planes that are not of one size and ratio.
         Size = 1,
         /// 2: a ratio other than 1, 2 or 4, or one that does not divide a size; or a mask without a whole step.
         Ratio = 2,
@@ -91,7 +92,7 @@ mod tests {
     #[test]
     fn numbers_and_names_agree() {
         assert_eq!(Refusal::answered(0), None);
-        for (index, refusal) in Refusal::ALL.into_iter().enumerate() {
+        for (index, &refusal) in Refusal::ALL.iter().enumerate() {
             assert_eq!(usize::from(refusal.number()), index + 1);
             assert_eq!(Refusal::answered(index as u8 + 1), Some(refusal));
             assert!(!refusal.to_string().is_empty());

@@ -1,9 +1,9 @@
 //! The refusals of the library, in the words that a programmer reads: each names the call, and the argument.
 
 use safeteal::{
-    apply, assemble, distances, fit, hold, mask, stats, Channel, Error, Frames, Layer, LayerBuf,
-    LayerBytes, LayerMut, Limits, Mask, Motion, Pair, Part, Plane, PlaneMut, Ratio, Settings, Size,
-    Sums, Work,
+    apply, assemble, distances, fit, hold, mask, stats, Channel, Error, Frame, Frames, Layer,
+    LayerBuf, LayerBytes, LayerMut, Limits, Mask, Motion, MotionBuf, Pair, Part, Plane, PlaneMut,
+    Ratio, Settings, Size, Sums, Work,
 };
 
 /// Luma of the calls here; chroma of ratio 2 is 2 by 1.
@@ -78,11 +78,15 @@ fn of_apply_and_hold() {
     let still = |length: usize, width: usize| Mask::new(&BYTES[..length], width);
     assert_eq!(
         applied(still(8, 5), 0.0),
-        "apply refused (2): the mask has 8 elements in rows of 5, and its width is not 1 to 8 times that of a plane of 4 by 2"
+        "apply refused (2): the mask has rows of 5 and must have rows of 1 to 8 times 4, the plane's width"
     );
     assert_eq!(
         applied(still(9, 4), 0.0),
-        "apply refused (2): the mask has 9 elements in rows of 4, and its length is not 1 to 8 times that of a plane of 4 by 2"
+        "apply refused (2): the mask has 9 elements and must have whole rows of 4: 1 to 8 times 2, the plane's height, of them"
+    );
+    assert_eq!(
+        applied(still(8, 4), 1.1),
+        "apply refused (6): time is 1.1 and must be 0 to 1"
     );
     assert_eq!(
         applied(still(8, 4), f32::NAN),
@@ -179,7 +183,15 @@ fn of_unpeel_and_render() {
     let grid = (1, 2);
     assert_eq!(
         rendered(Motion { grid, ..MOTION }, 0.5),
-        "render refused (4): `forward.0` has 1 elements and must have exactly 2"
+        "render refused (4): `forward.0` has 1 elements and must have one for each block of a grid of 1 by 2"
+    );
+    let grid = (usize::MAX, 2);
+    assert_eq!(
+        rendered(Motion { grid, ..MOTION }, 0.5),
+        format!(
+            "render refused (4): `forward.0` has 1 elements and must have one for each block of a grid of {} by 2",
+            usize::MAX
+        )
     );
     let block = (8, 129);
     assert_eq!(
@@ -205,11 +217,7 @@ fn of_unpeel_and_render() {
 fn of_stats() {
     let words = |luma: usize, first: [Plane<'_>; 3], pairs: usize| {
         let second = [plane(8, 4), plane(2, 2), plane(2, 2)];
-        let pair = Pair {
-            first,
-            second,
-            motion: MOTION,
-        };
+        let pair = Pair::new(first, second, MOTION);
         let (luma, chroma) = (&mut vec![0.0; luma], [&mut [0.0; 4][..], &mut [0.0; 4]]);
         said(stats(luma, chroma, pairs, SIZE, Ratio::Two, &pair))
     };
@@ -228,7 +236,62 @@ fn of_stats() {
     );
     assert_eq!(
         words(48, first, 12),
-        "stats refused (7): pairs is 12 and must be 0 to 11"
+        "stats refused (7): the sums hold 12 pairs already, and take 12 at most"
+    );
+}
+
+#[test]
+fn of_frames_unlike_each_other_or_the_sums() {
+    let frame = |width: usize, ratio: Ratio| {
+        Frame::new(Size::new(width, 4), ratio, [0; 3]).expect("a small frame")
+    };
+    let (frame, wide, halved) = (
+        frame(4, Ratio::One),
+        frame(8, Ratio::One),
+        frame(4, Ratio::Two),
+    );
+    let motion = MotionBuf::still(frame.size()).expect("one block");
+    assert_eq!(
+        said(Pair::of(&frame, &wide, &motion)),
+        "Pair::of refused (1): `second` has another size or ratio than `first`"
+    );
+    assert_eq!(
+        said(Frames::of(Channel::Luma, &frame, &halved, 0.5)),
+        "Frames::of refused (1): `second` has another size or ratio than `first`"
+    );
+    let mut sums = Sums::new(frame.size(), Ratio::One).expect("small sums");
+    for other in [&wide, &halved] {
+        let pair = Pair::of(other, other, &motion).expect("frames alike");
+        assert_eq!(
+            said(sums.add(&pair)),
+            "stats refused (1): `pair` has another size or ratio than the sums"
+        );
+    }
+    assert_eq!(sums.pairs(), 0);
+    let pair = Pair::of(&frame, &frame, &motion).expect("frames alike");
+    assert_eq!(sums.add(&pair), Ok(()));
+}
+
+#[test]
+fn of_motion_and_of_layers_made_anew() {
+    let pan = |right: i32, down: i32| said(MotionBuf::pan(SIZE, (right, down)));
+    assert_eq!(
+        pan(i32::MIN, 0),
+        "MotionBuf::pan refused (5): right is -2147483648 and must be -1024 to 1024"
+    );
+    assert_eq!(
+        pan(1024, 1025),
+        "MotionBuf::pan refused (5): down is 1025 and must be -1024 to 1024"
+    );
+    assert!(MotionBuf::pan(SIZE, (-1024, 1024)).is_ok());
+    let size = Size::new(0, 4);
+    assert_eq!(
+        said(MotionBuf::still(size)),
+        "MotionBuf::still refused (1): width is 0 and must be 1 to 4096"
+    );
+    assert_eq!(
+        said(LayerBuf::assemble(size, Ratio::One, &[], &[])),
+        "assemble refused (1): width is 0 and must be 1 to 4096"
     );
 }
 

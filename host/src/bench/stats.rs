@@ -40,11 +40,9 @@ struct Lent {
 
 impl Lent {
     fn pair(&self) -> Pair<'_> {
-        Pair {
-            first: self.first.each_ref().map(PlaneBuf::plane),
-            second: self.second.each_ref().map(PlaneBuf::plane),
-            motion: self.motion.lent(),
-        }
+        let [first, second] =
+            [&self.first, &self.second].map(|frame| frame.each_ref().map(PlaneBuf::plane));
+        Pair::new(first, second, self.motion.lent())
     }
 }
 

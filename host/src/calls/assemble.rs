@@ -54,7 +54,7 @@ impl LayerBuf {
     /// # Errors
     /// As [`assemble`].
     pub fn assemble(size: Size, ratio: Ratio, models: &[f32], cover: &[u8]) -> Result<Self> {
-        let mut made = Self::new(size, ratio)?;
+        let mut made = Self::zeros(size, ratio, "assemble")?;
         assemble(size, ratio, models, cover, made.layer_mut())?;
         Ok(made)
     }

@@ -13,6 +13,8 @@ pub struct Settings {
 }
 
 impl Default for Settings {
+    /// Limit 6, evidence figure 2, not strict. A pair gives two comparisons: an evidence figure of twice the pairs takes
+    /// only what stood apart in all of them.
     fn default() -> Self {
         Self {
             limit: 6.0,
@@ -91,7 +93,7 @@ impl LayerBuf {
     /// assert_eq!(error.to_string(), "fit refused (7): the number of pairs in own is 0 and must be 1 to 12");
     ///
     /// let frame = Frame::new(size, Ratio::One, [90, 128, 128])?;
-    /// sums.add(&Pair::of(&frame, &frame, &MotionBuf::still(size)?))?;
+    /// sums.add(&Pair::of(&frame, &frame, &MotionBuf::still(size)?)?)?;
     /// let layer = LayerBuf::fit(None, &sums, None, Settings::default())?;
     /// // Nothing stands apart: gain 1 (4096 / 4096), offset 0.
     /// assert_eq!(layer.layer().luma, [4096, 0]);
@@ -110,11 +112,11 @@ impl LayerBuf {
         for (name, sums) in [("previous", previous), ("next", next)] {
             if sums.is_some_and(|sums| (sums.size(), sums.ratio()) != (size, ratio)) {
                 return Err(Error::of("fit", Refusal::Size, |search| {
-                    search.unlike(name)
+                    search.unlike(name, "`own`")
                 }));
             }
         }
-        let mut made = Self::new(size, ratio)?;
+        let mut made = Self::zeros(size, ratio, "fit")?;
         let pixels = size.width * size.height;
         let work = Work {
             models: &mut vec![0.0; 4 * pixels],

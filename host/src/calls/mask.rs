@@ -2,18 +2,20 @@ use crate::answer::done;
 use crate::{ffi, Plane, Result, Size};
 
 /// What [`mask`] takes for standing still. Any floats are accepted.
+///
+/// A change of a byte counts as a part of the full range: 4.5 / 255 is a change of 4.5.
 #[derive(Clone, Copy, Debug)]
 pub struct Limits {
-    /// The largest change of a byte, in 255ths.
+    /// The largest change of a byte, as a part of the full range.
     pub limit: f32,
-    /// The least detail worth comparing, in 255ths.
+    /// The least detail worth comparing, as a part of the full range.
     pub edge: f32,
     /// The part of the detail that may differ.
     pub tolerance: f32,
 }
 
 impl Default for Limits {
-    /// 4.5 and 5 of 255, and 30 of 100.
+    /// 4.5 / 255, 5 / 255 and 30 / 100.
     fn default() -> Self {
         Self {
             limit: (4.5 / 255.0) as f32,

@@ -6,7 +6,8 @@ impl<T: Form> LayerOf<'_, T> {
     /// Lifts the lettering off one plane; gives the count of pixels written.
     ///
     /// Written are the pixels in cells at distance 0 or 1 (or below) whose gain and offset are not (1, 0), each with
-    /// what was under the lettering in `raw`. All other bytes of `output` stay.
+    /// what was under the lettering in `raw`. All other bytes of `output` stay. The size is that of the layer's plane:
+    /// larger planes are read and written in their upper left corner.
     ///
     /// ```
     /// use safeteal::{Channel, Layer, LayerBytes, Plane, PlaneMut, Ratio, Size};
@@ -32,7 +33,7 @@ impl<T: Form> LayerOf<'_, T> {
     /// ```compile_fail,E0502
     /// # use safeteal::{Channel, Frame, LayerBuf};
     /// fn in_place(layer: &LayerBuf, frame: &mut Frame) -> Result<u64, safeteal::Error> {
-    ///     let output = frame[Channel::Luma].plane_mut();
+    ///     let output = frame.plane_mut(Channel::Luma);
     ///     layer.layer().peel(Channel::Luma, output, frame[Channel::Luma].plane())
     /// }
     /// ```

@@ -2,10 +2,21 @@ use crate::answer::written;
 use crate::{Channel, Frames, Layer, Motion, PlaneMut, Result};
 
 impl Layer<'_> {
+    /// For `algo` of [`render`](Self::render): neither frame is preferred. Any number but 1 and 2 says so.
+    pub const MEDIAN: i32 = 0;
+
+    /// For `algo` of [`render`](Self::render): the second frame is preferred.
+    pub const SECOND: i32 = 1;
+
+    /// For `algo` of [`render`](Self::render): the first frame is preferred.
+    pub const FIRST: i32 = 2;
+
     /// Makes one plane of an in-between frame under and near the lettering; gives the count of pixels written.
     ///
-    /// Pixels farther from lettering than any motion reaches stay as they are. `algo` 1 prefers the second frame,
-    /// 2 the first, any other number takes the median.
+    /// Pixels farther from lettering than any motion reaches stay as they are. `algo` 1 ([`Layer::SECOND`]) prefers the
+    /// second frame, 2 ([`Layer::FIRST`]) the first, any other number ([`Layer::MEDIAN`]) takes the median.
+    ///
+    /// The sizes are the layer's: larger planes are read and written in their upper left corner.
     ///
     /// ```
     /// use safeteal::{Channel, Frames, Layer, MotionBuf, Plane, PlaneMut, Ratio, Size};
@@ -17,7 +28,7 @@ impl Layer<'_> {
     /// let frames = Frames { first, second, time: 0.5 };
     /// let mut output = [0];
     /// let plane = PlaneMut::new(&mut output, 1);
-    /// let count = layer.render(Channel::Luma, plane, frames, &motion.motion(), 0)?;
+    /// let count = layer.render(Channel::Luma, plane, frames, &motion.motion(), Layer::MEDIAN)?;
     /// assert_eq!((count, output), (1, [20]));
     /// # Ok::<(), safeteal::Error>(())
     /// ```
@@ -68,7 +79,7 @@ mod tests {
         };
         let mut output = [0; 16];
         let plane = PlaneMut::new(&mut output, 8);
-        let count = ONE_OF_GAIN_0.render(Channel::Luma, plane, frames, &motion, 2);
+        let count = ONE_OF_GAIN_0.render(Channel::Luma, plane, frames, &motion, Layer::FIRST);
         assert_eq!(count, Ok(16));
         assert_eq!(output[1], 40);
     }

@@ -6,7 +6,8 @@ impl<T: Form> LayerOf<'_, T> {
     /// Lays the lettering back onto one plane of a frame made in between; gives the count of pixels written.
     ///
     /// Written are the pixels that [`peel`](Self::peel) writes. `output` holds the frame without lettering, `frames` the
-    /// two frames as they came.
+    /// two frames as they came. The size is that of the layer's plane: larger planes are read and written in their upper
+    /// left corner.
     ///
     /// ```
     /// use safeteal::{Channel, Frames, Layer, LayerBytes, Plane, PlaneMut, Ratio, Size};

@@ -72,11 +72,11 @@ impl Stats {
 
     /// The sums (of luma and of chroma) and the pair.
     pub fn lent(&mut self) -> (&mut [f32], [&mut [f32]; 2], Pair<'_>) {
-        let pair = Pair {
-            first: [&self.first0, &self.first1, &self.first2].map(Plane::lent),
-            second: [&self.second0, &self.second1, &self.second2].map(Plane::lent),
-            motion: self.motion.lent(),
-        };
+        let pair = Pair::new(
+            [&self.first0, &self.first1, &self.first2].map(Plane::lent),
+            [&self.second0, &self.second1, &self.second2].map(Plane::lent),
+            self.motion.lent(),
+        );
         let chroma: [&mut [f32]; 2] = [&mut self.chroma1, &mut self.chroma2];
         (&mut self.luma, chroma, pair)
     }

@@ -5,12 +5,12 @@ use crate::{Channel, Frame, Plane, Size};
 /// The frame halfway, where the camera went so many pixels right and down from the first frame to the second.
 pub fn halfway(first: &Frame, second: &Frame, (right, down): (i32, i32)) -> Frame {
     let mut made = first.clone();
-    for channel in Channel::ALL {
+    for &channel in Channel::ALL {
         let size = made[channel].size();
         let half = 2.0 * (first.size().width / size.width) as f32;
         let (dx, dy) = (right as f32 / half, down as f32 / half);
         let (first, second) = (first[channel].plane(), second[channel].plane());
-        for (at, byte) in made[channel].bytes_mut().iter_mut().enumerate() {
+        for (at, byte) in made.bytes_mut(channel).iter_mut().enumerate() {
             let (x, y) = ((at % size.width) as f32, (at / size.width) as f32);
             let moved = [
                 sample(first, size, x + dx, y + dy),

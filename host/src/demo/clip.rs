@@ -72,7 +72,7 @@ fn path(size: Size, frames: usize) -> Vec<(i32, i32)> {
 
 /// A little noise that is another one on each frame, as a camera makes.
 fn grain(frame: &mut Frame, number: usize) {
-    let luma = frame[Channel::Luma].bytes_mut();
+    let luma = frame.bytes_mut(Channel::Luma);
     for (at, byte) in luma.iter_mut().enumerate() {
         let noise = (chance(at as i32, 100 + number as i32) * 5.0) as u8;
         *byte = byte.saturating_add(noise).saturating_sub(2);
@@ -119,10 +119,10 @@ impl Canvas {
             (place.1 - self.corner.1) as usize,
         );
         let mut frame = Frame::new(size, RATIO, [0; 3])?;
-        for channel in Channel::ALL {
+        for &channel in Channel::ALL {
             let width = frame[channel].size().width;
             let side = size.width / width;
-            for (at, byte) in frame[channel].bytes_mut().iter_mut().enumerate() {
+            for (at, byte) in frame.bytes_mut(channel).iter_mut().enumerate() {
                 let (x, y) = (at % width * side + left, at / width * side + top);
                 let pixel = |at: usize| self.pixels[(y + at / side) * self.width + x + at % side];
                 let sum: usize = (0..side * side)

@@ -63,7 +63,7 @@ impl Parts {
             let mut first = clip.frame(pairs.start)?;
             for pair in pairs {
                 let second = clip.frame(pair + 1)?;
-                sums.add(&Pair::of(&first, &second, &clip.motion(pair)?))?;
+                sums.add(&Pair::of(&first, &second, &clip.motion(pair)?)?)?;
                 first = second;
                 step.done(pair + 1 - begins);
             }

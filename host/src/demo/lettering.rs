@@ -104,9 +104,9 @@ impl Lettering {
 
     /// Prints the lettering onto a frame.
     pub fn print(&self, frame: &mut Frame) {
-        for channel in Channel::ALL {
+        for &channel in Channel::ALL {
             let width = frame[channel].size().width;
-            for (at, byte) in frame[channel].bytes_mut().iter_mut().enumerate() {
+            for (at, byte) in frame.bytes_mut(channel).iter_mut().enumerate() {
                 let (gain, offset) = self.model(channel, at % width, at / width);
                 *byte = (gain * f32::from(*byte) + offset).round() as u8;
             }

@@ -1,11 +1,9 @@
 //! The library's calls, each over the three planes of a frame; with the dots that were written.
 
-use crate::{Channel, Error, Frame, Frames, LayerBuf, MotionBuf};
+use crate::{Channel, Error, Frame, Frames, Layer, LayerBuf, MotionBuf};
 
 /// The middle between two frames.
 const HALFWAY: f32 = 0.5;
-/// Neither frame is preferred.
-const MEDIAN: i32 = 0;
 
 /// A frame, and how many of its dots were written.
 pub struct Written {
@@ -16,7 +14,7 @@ pub struct Written {
 /// The frame without its lettering.
 pub fn lift(layer: &LayerBuf, frame: &Frame) -> Result<Written, Error> {
     over_planes(frame, |channel, output| {
-        let (output, raw) = (output[channel].plane_mut(), frame[channel].plane());
+        let (output, raw) = (output.plane_mut(channel), frame[channel].plane());
         layer.layer().peel(channel, output, raw)
     })
 }
@@ -28,8 +26,8 @@ pub fn lay_back(
     [first, second]: &[Frame; 2],
 ) -> Result<Written, Error> {
     over_planes(without, |channel, output| {
-        let frames = Frames::of(channel, first, second, HALFWAY);
-        let output = output[channel].plane_mut();
+        let frames = Frames::of(channel, first, second, HALFWAY)?;
+        let output = output.plane_mut(channel);
         layer.layer().unpeel(channel, output, frames)
     })
 }
@@ -42,12 +40,11 @@ pub fn render(
     motion: &MotionBuf,
 ) -> Result<Written, Error> {
     over_planes(plain, |channel, output| {
-        let frames = Frames::of(channel, first, second, HALFWAY);
-        let output = output[channel].plane_mut();
+        let frames = Frames::of(channel, first, second, HALFWAY)?;
+        let output = output.plane_mut(channel);
         let motion = motion.motion();
-        layer
-            .layer()
-            .render(channel, output, frames, &motion, MEDIAN)
+        let algo = Layer::MEDIAN;
+        layer.layer().render(channel, output, frames, &motion, algo)
     })
 }
 
@@ -57,7 +54,7 @@ fn over_planes(
 ) -> Result<Written, Error> {
     let mut frame = start.clone();
     let mut dots = 0;
-    for channel in Channel::ALL {
+    for &channel in Channel::ALL {
         dots += call(channel, &mut frame)? as usize;
     }
     Ok(Written { frame, dots })

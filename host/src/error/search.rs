@@ -1,6 +1,6 @@
 //! Which argument a refusal was given for.
 
-use super::Fault;
+use super::{Fault, Number};
 use crate::groups::{Form, LentLayer};
 use crate::{Channel, Frames, Mask, Motion, Part, Plane, PlaneMut, Ratio, Refusal, Size};
 
@@ -29,22 +29,44 @@ impl Search {
         self
     }
 
-    fn range(self, refusal: Refusal, name: &'static str, value: f64, limits: [f64; 2]) -> Self {
+    /// A number with its limits, which `kind` keeps as they are.
+    fn range<T: Copy + PartialOrd>(
+        self,
+        refusal: Refusal,
+        name: &'static str,
+        kind: fn(T) -> Number,
+        value: T,
+        limits: [T; 2],
+    ) -> Self {
         let outside = !(limits[0]..=limits[1]).contains(&value);
         self.note(refusal, || {
-            outside.then_some(Fault::Outside(name, value, limits))
+            outside.then(|| Fault::Outside(name, kind(value), limits.map(kind)))
         })
     }
 
+    fn sizes(self, refusal: Refusal, name: &'static str, value: usize, limits: [usize; 2]) -> Self {
+        self.range(refusal, name, Number::Size, value, limits)
+    }
+
+    fn ints(self, name: &'static str, value: i32, limits: [i32; 2]) -> Self {
+        self.range(Refusal::Motion, name, Number::Int, value, limits)
+    }
+
     pub fn size(self, size: Size) -> Self {
-        let limits = [1.0, 4096.0];
-        self.range(Refusal::Size, "width", size.width as f64, limits)
-            .range(Refusal::Size, "height", size.height as f64, limits)
+        let limits = [1, 4096];
+        self.sizes(Refusal::Size, "width", size.width, limits)
+            .sizes(Refusal::Size, "height", size.height, limits)
     }
 
     /// The width of the rows that distances are made in.
     pub fn width(self, width: usize) -> Self {
-        self.range(Refusal::Size, "width", width as f64, [1.0, f64::INFINITY])
+        let zero = (width == 0).then_some(Fault::Zero("width"));
+        self.note(Refusal::Size, || zero)
+    }
+
+    /// A number that is no ratio.
+    pub fn no_ratio(self, ratio: usize) -> Self {
+        self.note(Refusal::Ratio, || Some(Fault::NoRatio(ratio)))
     }
 
     pub fn ratio(self, ratio: usize, size: Size) -> Self {
@@ -52,13 +74,18 @@ impl Search {
         self.note(Refusal::Ratio, || (!size.divided_by(ratio)).then(undivided))
     }
 
-    /// Sums that are not of the own part's size and ratio.
-    pub fn unlike(self, name: &'static str) -> Self {
-        self.note(Refusal::Size, || Some(Fault::Unlike(name)))
+    /// Frames or sums that have not the size and ratio of others.
+    pub fn unlike(self, name: &'static str, than: &'static str) -> Self {
+        self.note(Refusal::Size, || Some(Fault::Unlike(name, than)))
+    }
+
+    /// A plane that has not the size it must have.
+    pub fn other_size(self, name: &'static str, is: Size, must: Size) -> Self {
+        self.note(Refusal::Size, || Some(Fault::OtherSize(name, is, must)))
     }
 
     pub fn pitch(self, name: &'static str, pitch: usize, row: usize) -> Self {
-        self.range(Refusal::Pitch, name, pitch as f64, [row as f64, 65_536.0])
+        self.sizes(Refusal::Pitch, name, pitch, [row, 65_536])
     }
 
     pub fn at_least(self, name: &'static str, has: usize, needs: impl FnOnce() -> usize) -> Self {
@@ -87,8 +114,11 @@ impl Search {
     pub fn mask(self, mask: Mask<'_>, size: Size) -> Self {
         self.note(Refusal::Ratio, || {
             let across = (1..=8).any(|step| step * size.width == mask.width);
-            let name = if across { "its length" } else { "its width" };
-            Some(Fault::Step(name, mask.width, mask.data.len(), size))
+            Some(if across {
+                Fault::StepDown(mask.data.len(), mask.width, size.height)
+            } else {
+                Fault::StepAcross(mask.width, size.width)
+            })
         })
     }
 
@@ -163,32 +193,34 @@ impl Search {
     }
 
     pub fn motion(self, motion: &Motion<'_>) -> Self {
-        let (sides, blocks, origins) = ([1.0, 4096.0], [1.0, 128.0], [-4096.0, 4096.0]);
-        let cells = || motion.grid.0.saturating_mul(motion.grid.1);
-        let range = |search: Self, name, value: f64, limits| {
-            search.range(Refusal::Motion, name, value, limits)
-        };
-        let search = self
-            .exactly("forward.0", motion.forward.0.len(), cells)
-            .exactly("forward.1", motion.forward.1.len(), cells)
-            .exactly("backward.0", motion.backward.0.len(), cells)
-            .exactly("backward.1", motion.backward.1.len(), cells);
-        let search = range(search, "the grid's width", motion.grid.0 as f64, sides);
-        let search = range(search, "the grid's height", motion.grid.1 as f64, sides);
-        let search = range(search, "the block's width", motion.block.0.into(), blocks);
-        let search = range(search, "the block's height", motion.block.1.into(), blocks);
-        let search = range(search, "the origin's x", motion.origin.0.into(), origins);
-        let search = range(search, "the origin's y", motion.origin.1.into(), origins);
-        search.note(Refusal::Motion, || Some(Fault::Pel(motion.pel)))
+        let (sides, blocks, origins) = ([1, 4096], [1, 128], [-4096, 4096]);
+        self.field("forward.0", motion.forward.0, motion.grid)
+            .field("forward.1", motion.forward.1, motion.grid)
+            .field("backward.0", motion.backward.0, motion.grid)
+            .field("backward.1", motion.backward.1, motion.grid)
+            .sizes(Refusal::Motion, "the grid's width", motion.grid.0, sides)
+            .sizes(Refusal::Motion, "the grid's height", motion.grid.1, sides)
+            .ints("the block's width", motion.block.0, blocks)
+            .ints("the block's height", motion.block.1, blocks)
+            .ints("the origin's x", motion.origin.0, origins)
+            .ints("the origin's y", motion.origin.1, origins)
+            .note(Refusal::Motion, || Some(Fault::Pel(motion.pel)))
     }
 
-    pub fn pan(self, pixels: i32) -> Self {
-        let limits = [-1024.0, 1024.0];
-        self.range(Refusal::Motion, "the pan", pixels.into(), limits)
+    /// A field of motion. The grid is any two numbers here, whose product may be none.
+    fn field(self, name: &'static str, field: &[u16], grid: (usize, usize)) -> Self {
+        self.note(Refusal::Length, || {
+            let wrong = grid.0.checked_mul(grid.1) != Some(field.len());
+            wrong.then_some(Fault::Field(name, field.len(), grid))
+        })
     }
 
-    pub fn setting(self, name: &'static str, value: f32, limits: [f64; 2]) -> Self {
-        self.range(Refusal::Setting, name, value.into(), limits)
+    pub fn pan(self, name: &'static str, pixels: i32) -> Self {
+        self.ints(name, pixels, [-1024, 1024])
+    }
+
+    pub fn setting(self, name: &'static str, value: f32, limits: [f32; 2]) -> Self {
+        self.range(Refusal::Setting, name, Number::Float, value, limits)
     }
 
     pub fn time(self, time: f32) -> Self {
@@ -196,11 +228,11 @@ impl Search {
     }
 
     pub fn pairs(self, name: &'static str, pairs: usize, least: usize, most: usize) -> Self {
-        self.range(
-            Refusal::Pairs,
-            name,
-            pairs as f64,
-            [least as f64, most as f64],
-        )
+        self.sizes(Refusal::Pairs, name, pairs, [least, most])
+    }
+
+    /// Sums that hold so many pairs already.
+    pub fn full(self, pairs: usize) -> Self {
+        self.note(Refusal::Pairs, || Some(Fault::Full(pairs)))
     }
 }
