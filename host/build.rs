@@ -2,6 +2,7 @@
 //!
 //! `SAFETEAL_LIB` names a folder with a finished libhost.a; without it `rt staticlib host` is run.
 //! `SAFETEAL_ORACLE` names a folder with layer.rs and still.rs; without it the shared folder beside the project is read.
+//! Cargo runs this in the package's folder, and a relative folder is taken from there.
 
 use std::env;
 use std::fs;
@@ -37,10 +38,6 @@ pub fn window_at(parts: [Option<&Stats>; 3], at: usize, limit: f32, proof: f32, 
 pub fn is_set(model: (f32, f32)) -> bool {
     set(model)
 }
-
-pub fn pixel_of(value: f32) -> u8 {
-    pixel(value)
-}
 ";
 
 fn main() {
@@ -61,7 +58,7 @@ fn link(root: &Path) {
     println!("cargo:rerun-if-env-changed=SAFETEAL_LIB");
     let folder = match env::var_os("SAFETEAL_LIB") {
         Some(folder) => {
-            let folder = PathBuf::from(folder);
+            let folder = whole(PathBuf::from(folder));
             println!(
                 "cargo:rerun-if-changed={}",
                 folder.join("libhost.a").display()
@@ -110,14 +107,20 @@ fn prove(root: &Path) {
 /// Copies the Rust into the folder of made files, or says by `oracle_absent` that it is not at hand.
 fn oracle(root: &Path, out: &Path) {
     println!("cargo:rerun-if-env-changed=SAFETEAL_ORACLE");
-    let folder = env::var_os("SAFETEAL_ORACLE").map_or_else(
-        || root.join("../shared/docs/src/crates/svpflow-core/src"),
-        PathBuf::from,
-    );
+    let named = env::var_os("SAFETEAL_ORACLE").map(|folder| whole(PathBuf::from(folder)));
+    let is_named = named.is_some();
+    let folder = named.unwrap_or_else(|| root.join("../shared/docs/src/crates/svpflow-core/src"));
     let (layer, still) = (folder.join("layer.rs"), folder.join("still.rs"));
     println!("cargo:rerun-if-changed={}", layer.display());
     println!("cargo:rerun-if-changed={}", still.display());
     let (Ok(layer), Ok(still)) = (fs::read_to_string(&layer), fs::read_to_string(&still)) else {
+        // A folder that was asked for and is not the right one is no reason to compare nothing.
+        if is_named {
+            let folder = folder.display();
+            stop(&format!(
+                "SAFETEAL_ORACLE must name the folder with layer.rs and still.rs; they are not both in {folder}"
+            ));
+        }
         println!("cargo:rustc-cfg=oracle_absent");
         return;
     };
@@ -129,6 +132,11 @@ fn oracle(root: &Path, out: &Path) {
         &out.join("oracle.rs"),
         &format!("#[path = {copy:?}]\npub mod layer;\n#[path = {unchanged:?}]\npub mod still;\n"),
     );
+}
+
+/// The folder as it is seen from everywhere.
+fn whole(folder: PathBuf) -> PathBuf {
+    std::path::absolute(&folder).unwrap_or(folder)
 }
 
 fn write(path: &Path, text: &str) {

@@ -16,14 +16,13 @@ fn nothing_was_compared() {
 #[test]
 fn every_call_answers_as_the_rust() {
     use safeteal::check::run::{cases, say, seeds, wanted};
-    use safeteal::check::CALLS;
 
     let (cases, seeds) = (cases(), seeds());
     say(&format!(
         "differential run: {cases} cases for each call, seeds {seeds:?}"
     ));
     let mut failures = Vec::new();
-    for call in CALLS.iter().filter(|call| wanted(call.name)) {
+    for call in wanted() {
         match compared(call, cases, &seeds) {
             Ok(line) => say(&format!("{}: equal in {line}", call.name)),
             Err(words) => {

@@ -78,6 +78,11 @@ fn header() -> Interface {
         .arg(package().join("safeteal.h"))
         .output()
         .expect("the C compiler, which cargo links with as well");
+    assert!(
+        expanded.status.success(),
+        "{}",
+        String::from_utf8_lossy(&expanded.stderr)
+    );
     let text = String::from_utf8(expanded.stdout).expect("a text");
     let declarations = text.split(";\n").filter_map(|text| {
         let (head, parameters) = text.rsplit_once('(')?;

@@ -8,7 +8,7 @@ use safeteal::check::case::{difference, Case};
 use safeteal::check::damage::input;
 use safeteal::check::layer::Number;
 use safeteal::check::rng::Rng;
-use safeteal::check::run::fresh_seed;
+use safeteal::check::run::seed;
 use safeteal::check::{
     apply, assemble, distances, empty, fit, hold, mask, peel, render, stats, unpeel,
 };
@@ -23,12 +23,6 @@ const CASES: u64 = 4000;
 trait Through: Case {
     /// The library's answer; none for numbers that its types cannot hold.
     fn library(&mut self) -> Option<Result<u64, Error>>;
-}
-
-/// The seed of this run: the one asked for, or a fresh one.
-fn seed() -> u64 {
-    let asked = std::env::var("SAFETEAL_SEED").ok();
-    asked.map_or_else(fresh_seed, |text| text.parse().expect("a whole number"))
 }
 
 fn same<C: Through>() {

@@ -77,20 +77,9 @@ fn processor() -> String {
     })
 }
 
-const INTRO: &str = "\
-# Benchmark
-
-Each call against the Rust on one thread, both built for release, on the same inputs in one run: ours, the Rust, ours, the
-Rust, and the median of each. Outputs are not cleared between rounds. The Rust allocates what it returns, ours writes
-into lent slices. Made by `cargo run --release --bin bench -- --write` in host/.
-";
-
-/// Puts a table into the file, under that heading.
+/// Puts a table into the file, which is there, under that heading.
 pub fn write(file: &Path, heading: &str, table: &str) -> io::Result<()> {
-    let old = fs::read_to_string(file).unwrap_or_else(|_| INTRO.to_owned());
-    if let Some(folder) = file.parent() {
-        fs::create_dir_all(folder)?;
-    }
+    let old = fs::read_to_string(file)?;
     fs::write(file, with_table(&old, heading, table))
 }
 

@@ -15,18 +15,26 @@ fn main() {
     use safeteal::check::table::table;
     use safeteal::check::CALLS;
 
+    let stop = |words: String| -> ! {
+        eprintln!("memory: {words}; give the cases for each call, then a seed");
+        std::process::exit(2)
+    };
     let number = |at: usize| {
         std::env::args().nth(at).map(|word| {
-            word.parse::<u64>().unwrap_or_else(|_| {
-                eprintln!("memory: {word:?} is not a whole number; give the cases for each call, then a seed");
-                std::process::exit(2)
-            })
+            let number = word.parse::<u64>();
+            number.unwrap_or_else(|_| stop(format!("{word:?} is not a whole number")))
         })
     };
     let (cases, seed) = (
         number(1).unwrap_or(3000),
         number(2).unwrap_or_else(fresh_seed),
     );
+    if cases == 0 {
+        stop("0 cases would show nothing".to_owned());
+    }
+    if let Some(word) = std::env::args().nth(3) {
+        stop(format!("{word:?} is one word too many"));
+    }
     println!("memory: {cases} cases for each call, seed {seed}");
     let tallies: Vec<(&str, Tally)> = CALLS
         .iter()

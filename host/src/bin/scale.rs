@@ -7,6 +7,7 @@
 #[cfg(oracle_absent)]
 fn main() {
     eprintln!("scale: the Rust (layer.rs, still.rs) is not at hand, and nothing was compared");
+    std::process::exit(1);
 }
 
 #[cfg(not(oracle_absent))]
@@ -17,7 +18,11 @@ fn main() -> std::process::ExitCode {
     use std::time::{Duration, Instant};
 
     let options = match options::read(std::env::args().skip(1)) {
-        Ok(options) => options,
+        Ok(Some(options)) => options,
+        Ok(None) => {
+            print!("{}", options::HELP);
+            return ExitCode::SUCCESS;
+        }
         Err(words) => {
             eprintln!("scale: {words}");
             return ExitCode::from(2);
@@ -65,8 +70,19 @@ fn main() -> std::process::ExitCode {
 
 #[cfg(not(oracle_absent))]
 mod options {
-    use safeteal::check::run::fresh_seed;
+    use safeteal::check::run::{fresh_seed, named};
     use safeteal::check::{Call, CALLS};
+    use safeteal::demo::options::inside_or;
+
+    pub const HELP: &str = "\
+scale [OPTION VALUE]..: compares the calls with the Rust at length
+
+  --minutes N     how long, above 0 (1)
+  --cases N       so many cases for each call instead, 1 or more
+  --seed N        the first seed (a fresh one)
+  --calls NAMES   these calls, with commas between them (all)
+  --help          these lines
+";
 
     pub struct Options {
         pub minutes: f64,
@@ -75,8 +91,8 @@ mod options {
         pub calls: Vec<&'static Call>,
     }
 
-    /// Reads the words after the command's name, or says what is wrong with them.
-    pub fn read(mut words: impl Iterator<Item = String>) -> Result<Options, String> {
+    /// Reads the words after the command's name, or says what is wrong with them; none where help is asked for.
+    pub fn read(mut words: impl Iterator<Item = String>) -> Result<Option<Options>, String> {
         let mut options = Options {
             minutes: 1.0,
             cases: None,
@@ -84,36 +100,26 @@ mod options {
             calls: CALLS.iter().collect(),
         };
         while let Some(word) = words.next() {
-            let value = words.next().ok_or(format!("{word} needs a value"))?;
-            let wrong = |what: &str| format!("{word} takes {what}, not {value:?}");
+            let mut value = || words.next().ok_or(format!("{word} needs a value"));
             match word.as_str() {
+                "--help" | "-h" => return Ok(None),
                 "--minutes" => {
-                    let minutes = value.parse().ok().filter(|m: &f64| (0.0..1e6).contains(m));
-                    options.minutes = minutes.ok_or_else(|| wrong("a number of minutes"))?;
+                    let inside = |minutes: &f64| *minutes > 0.0 && *minutes < 1e6;
+                    let takes = "--minutes takes a number above 0";
+                    options.minutes = inside_or(takes, &value()?, inside)?;
                 }
                 "--cases" => {
-                    let cases = value.parse().map_err(|_| wrong("a whole number"))?;
-                    options.cases = Some(cases);
+                    let takes = "--cases takes a whole number above 0";
+                    options.cases = Some(inside_or(takes, &value()?, |&cases| cases > 0)?);
                 }
-                "--seed" => options.seed = value.parse().map_err(|_| wrong("a whole number"))?,
-                "--calls" => options.calls = named(&value)?,
-                _ => {
-                    return Err(format!(
-                    "there is no option {word:?}: there are --minutes, --cases, --seed and --calls"
-                ))
+                "--seed" => {
+                    let takes = "--seed takes a whole number";
+                    options.seed = inside_or(takes, &value()?, |_| true)?;
                 }
+                "--calls" => options.calls = named(&value()?)?,
+                _ => return Err(format!("there is no option {word:?}\n\n{HELP}")),
             }
         }
-        Ok(options)
-    }
-
-    fn named(list: &str) -> Result<Vec<&'static Call>, String> {
-        let call = |name: &str| {
-            let found = CALLS.iter().find(|call| call.name == name);
-            let names: Vec<&str> = CALLS.iter().map(|call| call.name).collect();
-            found
-                .ok_or_else(|| format!("there is no call {name:?}; there are {}", names.join(", ")))
-        };
-        list.split(',').map(call).collect()
+        Ok(Some(options))
     }
 }

@@ -11,6 +11,7 @@ use super::rng::Rng;
 use super::show;
 use super::shrink::shrink;
 use super::stored;
+use super::CALLS;
 
 /// How many cases a call gets at least, unless `SAFETEAL_CASES` says otherwise.
 const CASES: u64 = 100_000;
@@ -150,7 +151,11 @@ fn run<C: Case>(seed: u64, until: Until) -> Result<Tally, String> {
         }
         let case = input::<C>(&mut Rng::of(seed, C::NAME, index));
         let place = |words: String| {
-            let again = format!("SAFETEAL_SEED={seed} SAFETEAL_CALLS={}", C::NAME);
+            let again = format!(
+                "SAFETEAL_SEED={seed} SAFETEAL_CASES={} SAFETEAL_CALLS={}",
+                index + 1,
+                C::NAME
+            );
             format!(
                 "{}, seed {seed}, case {index} ({again} runs it again):\n{words}",
                 C::NAME
@@ -219,14 +224,40 @@ pub fn fresh_seed() -> u64 {
     since.as_nanos() as u64 % 1_000_000_007
 }
 
-/// The cases for each call in one run.
-pub fn cases() -> u64 {
-    number("SAFETEAL_CASES").unwrap_or(CASES)
+/// The one seed of a shorter run: `SAFETEAL_SEED`, or a fresh one.
+pub fn seed() -> u64 {
+    number("SAFETEAL_SEED").unwrap_or_else(fresh_seed)
 }
 
-/// Whether `SAFETEAL_CALLS` is silent or names this call.
-pub fn wanted(name: &str) -> bool {
-    std::env::var("SAFETEAL_CALLS").map_or(true, |list| list.split(',').any(|call| call == name))
+/// The cases for each call in one run.
+///
+/// # Panics
+/// Where `SAFETEAL_CASES` asks for none: then nothing would be compared.
+pub fn cases() -> u64 {
+    let cases = number("SAFETEAL_CASES").unwrap_or(CASES);
+    assert!(cases > 0, "SAFETEAL_CASES must be 1 or more");
+    cases
+}
+
+/// The calls of these names, with commas between them, or words for one that there is not.
+pub fn named(list: &str) -> Result<Vec<&'static Call>, String> {
+    let call = |name: &str| {
+        let found = CALLS.iter().find(|call| call.name == name);
+        let names: Vec<&str> = CALLS.iter().map(|call| call.name).collect();
+        found.ok_or_else(|| format!("there is no call {name:?}; there are {}", names.join(", ")))
+    };
+    list.split(',').map(call).collect()
+}
+
+/// The calls that `SAFETEAL_CALLS` names, or all of them.
+///
+/// # Panics
+/// Where it names a call that there is not: then less would be compared than was asked for.
+pub fn wanted() -> Vec<&'static Call> {
+    let Ok(list) = std::env::var("SAFETEAL_CALLS") else {
+        return CALLS.iter().collect();
+    };
+    named(&list).unwrap_or_else(|words| panic!("SAFETEAL_CALLS: {words}"))
 }
 
 fn number(variable: &str) -> Option<u64> {

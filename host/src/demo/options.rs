@@ -81,7 +81,7 @@ fn figure(option: &str, value: &str) -> Result<f32, String> {
 }
 
 /// The value as a number that is inside, or the words for what the option takes.
-fn inside_or<T: FromStr>(
+pub fn inside_or<T: FromStr>(
     takes: &str,
     value: &str,
     inside: impl FnOnce(&T) -> bool,
