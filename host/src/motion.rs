@@ -146,7 +146,7 @@ pub struct Pair<'a> {
     pub second: [Plane<'a>; 3],
     /// The motion between them.
     pub motion: Motion<'a>,
-    /// What the planes were lent as, where that is known.
+    /// The size and the ratio of both frames, where they are known.
     pub(crate) known: Option<(Size, Ratio)>,
 }
 

@@ -20,29 +20,41 @@ bench [CALL].. [OPTION]..: each call beside the Rust, as a Markdown table; the c
 /// What is wrong with the words after the command's name.
 #[cfg(not(oracle_absent))]
 fn fault(words: &[String]) -> Option<String> {
-    let mut calls: Vec<&str> = safeteal::bench::CALLS
+    words
         .iter()
-        .flat_map(|workloads| workloads.iter().map(|workload| workload.call))
-        .collect();
-    calls.dedup();
-    let option = |word: &str| ["--quick", "--growth", "--write"].contains(&word);
-    for word in words.iter().map(String::as_str) {
-        if word.starts_with('-') && !option(word) {
-            return Some(format!("there is no option {word:?}\n\n{HELP}"));
-        }
-        if !word.starts_with('-') && !calls.contains(&word) {
-            return Some(format!(
-                "there is no call {word:?}; there are {}",
-                calls.join(", ")
-            ));
-        }
+        .find_map(|word| unknown(word))
+        .or_else(|| part_written(words))
+}
+
+/// Words for a word that is neither an option nor a call.
+#[cfg(not(oracle_absent))]
+fn unknown(word: &str) -> Option<String> {
+    if word.starts_with('-') {
+        let known = ["--quick", "--growth", "--write"].contains(&word);
+        return (!known).then(|| format!("there is no option {word:?}\n\n{HELP}"));
     }
-    let part = |word: &String| word == "--quick" || !word.starts_with('-');
-    let writes = words.iter().any(|word| word == "--write");
-    let part = words.iter().find(|word| writes && part(word))?;
-    Some(format!(
-        "--write takes no {part:?} beside it: a part of the table would take the whole one's place"
-    ))
+    let workloads = safeteal::bench::CALLS.iter().copied().flatten();
+    let mut calls: Vec<&str> = workloads.map(|workload| workload.call).collect();
+    calls.dedup();
+    let list = || calls.join(", ");
+    (!calls.contains(&word)).then(|| format!("there is no call {word:?}; there are {}", list()))
+}
+
+/// Words for a table that is not whole and would be written all the same.
+#[cfg(not(oracle_absent))]
+fn part_written(words: &[String]) -> Option<String> {
+    let part = |word: &&String| *word == "--quick" || !word.starts_with('-');
+    let part = words.iter().find(part)?;
+    words.iter().any(|word| word == "--write").then(|| {
+        format!("--write takes no {part:?} beside it: a part of the table would take the whole one's place")
+    })
+}
+
+/// Ends the run with words.
+#[cfg(not(oracle_absent))]
+fn stop(words: &str, status: i32) -> ! {
+    eprintln!("bench: {words}");
+    std::process::exit(status)
 }
 
 #[cfg(not(oracle_absent))]
@@ -58,8 +70,13 @@ fn main() {
         return;
     }
     if let Some(words) = fault(&words) {
-        eprintln!("bench: {words}");
-        std::process::exit(2);
+        stop(&words, 2);
+    }
+    // Cargo names the package's folder; docs/ stands beside it.
+    let package = std::env::var_os("CARGO_MANIFEST_DIR").map_or_else(|| ".".into(), PathBuf::from);
+    let page = package.join("../docs/BENCHMARK.md");
+    if has("--write") && !page.is_file() {
+        stop(&format!("there is no {} to write into", page.display()), 1);
     }
     let all = words.iter().all(|word| word.starts_with("--"));
     let sizes = if has("--quick") { &SIZES[..3] } else { &SIZES };
@@ -92,13 +109,40 @@ fn main() {
         }
     }
     if has("--write") {
-        // Cargo names the package's folder; docs/ stands beside it.
-        let package =
-            std::env::var_os("CARGO_MANIFEST_DIR").map_or_else(|| ".".into(), PathBuf::from);
-        let page = package.join("../docs/BENCHMARK.md");
         if let Err(error) = write(&page, &heading, &table) {
-            eprintln!("bench: {}: {error}", page.display());
-            std::process::exit(1);
+            stop(&format!("{}: {error}", page.display()), 1);
+        }
+    }
+}
+
+#[cfg(all(test, not(oracle_absent)))]
+mod tests {
+    fn said(text: &str) -> Option<String> {
+        let words: Vec<String> = text.split_whitespace().map(str::to_owned).collect();
+        super::fault(&words)
+    }
+
+    #[test]
+    fn right_words() {
+        for text in ["", "--write", "--growth --write", "peel fit --quick"] {
+            assert_eq!(said(text), None, "{text}");
+        }
+    }
+
+    #[test]
+    fn wrong_words_are_named() {
+        let wrong = [
+            ("--fast", "there is no option \"--fast\""),
+            (
+                "peel pel",
+                "there is no call \"pel\"; there are distances, mask",
+            ),
+            ("--write peel", "--write takes no \"peel\" beside it"),
+            ("--quick --write", "--write takes no \"--quick\" beside it"),
+        ];
+        for (text, part) in wrong {
+            let words = said(text).expect(text);
+            assert!(words.starts_with(part), "{text}: {words}");
         }
     }
 }

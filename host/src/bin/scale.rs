@@ -122,4 +122,43 @@ scale [OPTION VALUE]..: compares the calls with the Rust at length
         }
         Ok(Some(options))
     }
+
+    #[cfg(test)]
+    mod tests {
+        fn said(text: &str) -> Result<bool, String> {
+            let words = text.split_whitespace().map(str::to_owned);
+            super::read(words).map(|options| options.is_some())
+        }
+
+        #[test]
+        fn right_words() {
+            assert_eq!(
+                said("--minutes 0.5 --cases 1 --seed 0 --calls peel,fit"),
+                Ok(true)
+            );
+            assert_eq!(said("--help"), Ok(false));
+        }
+
+        #[test]
+        fn wrong_words_are_named() {
+            let wrong = [
+                (
+                    "--cases 0",
+                    "--cases takes a whole number above 0, not \"0\"",
+                ),
+                ("--minutes 0", "--minutes takes a number above 0, not \"0\""),
+                ("--seed -1", "--seed takes a whole number, not \"-1\""),
+                (
+                    "--calls pel",
+                    "there is no call \"pel\"; there are distances",
+                ),
+                ("--seed", "--seed needs a value"),
+                ("--hours", "there is no option \"--hours\""),
+            ];
+            for (text, part) in wrong {
+                let words = said(text).expect_err(text);
+                assert!(words.starts_with(part), "{text}: {words}");
+            }
+        }
+    }
 }
