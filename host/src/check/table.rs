@@ -3,7 +3,7 @@
 use super::run::Tally;
 
 const HEAD: &str = "\
-| Call | Cases | Cases a second | Accepted | Refused | Numbers answered | Pixels counted |
+| Call | Cases | Cases a second | Accepted | Refused | Numbers answered | Counted |
 |---|---|---|---|---|---|---|
 ";
 
