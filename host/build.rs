@@ -2,6 +2,7 @@
 //!
 //! `SAFETEAL_LIB` names a folder with a finished libhost.a; without it `rt staticlib host` is run.
 //! `SAFETEAL_ORACLE` names a folder with layer.rs and still.rs; without it the shared folder beside the project is read.
+//! `SAFETEAL_BEFORE` names a folder with another finished libhost.a, which is linked as well, for `bench --before`.
 //! Cargo runs this in the package's folder, and a relative folder is taken from there.
 
 use std::env;
@@ -49,12 +50,12 @@ fn main() {
         .parent()
         .expect("the package stands in the project's root");
     let out = PathBuf::from(env::var("OUT_DIR").expect("cargo names the folder of made files"));
-    link(root);
+    link(root, &out);
     oracle(root, &out);
 }
 
-/// Links libhost.a, making it first where no finished one is named.
-fn link(root: &Path) {
+/// Links libhost.a, making it first where no finished one is named; and another one beside it where that is named.
+fn link(root: &Path, out: &Path) {
     println!("cargo:rerun-if-env-changed=SAFETEAL_LIB");
     let folder = match env::var_os("SAFETEAL_LIB") {
         Some(folder) => {
@@ -75,12 +76,95 @@ fn link(root: &Path) {
             root.join("target/staticlib")
         }
     };
-    if !folder.join("libhost.a").is_file() {
-        stop(&format!("there is no libhost.a in {}", folder.display()));
-    }
+    let library = present(&folder);
+    before(&library, out);
     println!("cargo:rustc-link-search=native={}", folder.display());
     println!("cargo:rustc-link-lib=static=host");
     println!("cargo:rustc-env=SAFETEAL_LINKED={}", folder.display());
+}
+
+/// The libhost.a of a folder, where there is one.
+fn present(folder: &Path) -> PathBuf {
+    let library = folder.join("libhost.a");
+    if !library.is_file() {
+        stop(&format!("there is no libhost.a in {}", folder.display()));
+    }
+    library
+}
+
+/// In copy number n of a library each function begins at a multiple of so many bytes. Where code stands can cost it a
+/// twentieth of its time, which says nothing of the code: so it is measured in several places.
+const PLACES: [usize; 8] = [16, 32, 64, 128, 256, 512, 1024, 2048];
+
+/// Links copies of this library and of the one that `SAFETEAL_BEFORE` names, if it names one.
+fn before(now: &Path, out: &Path) {
+    println!("cargo:rerun-if-env-changed=SAFETEAL_BEFORE");
+    println!("cargo:rustc-check-cfg=cfg(before)");
+    let Some(folder) = env::var_os("SAFETEAL_BEFORE") else {
+        return;
+    };
+    let before = present(&whole(PathBuf::from(folder)));
+    println!("cargo:rerun-if-changed={}", before.display());
+    let archive = out.join("libcopies.a");
+    // Members of an older one would stay in it.
+    let _ = fs::remove_file(&archive);
+    for (library, which) in [(now, "now"), (&before, "before")] {
+        let names = defined(library);
+        for (number, place) in PLACES.into_iter().enumerate() {
+            let object = copy(library, &names, &format!("{which}{number}"), place, out);
+            said(Command::new("ar").arg("rcs").arg(&archive).arg(object));
+        }
+    }
+    println!("cargo:rustc-link-search=native={}", out.display());
+    println!("cargo:rustc-link-lib=static=copies");
+    println!("cargo:rustc-cfg=before");
+}
+
+/// The names that a library defines for others.
+fn defined(library: &Path) -> Vec<String> {
+    let mut list = Command::new("nm");
+    list.args(["--extern-only", "--defined-only", "--format=posix"]);
+    // A line is a name and its kind and place; a line of one word names the member of the archive.
+    let listed = said(list.arg(library));
+    let names = listed.lines().filter_map(|line| line.split_once(' '));
+    names.map(|(name, _)| name.to_owned()).collect()
+}
+
+/// One object of a library, all its functions in one piece that begins at a page, with `NAME_` in front of each of these
+/// names; what it has from elsewhere, as memset, keeps its name.
+fn copy(library: &Path, names: &[String], name: &str, place: usize, out: &Path) -> PathBuf {
+    let file = |end: &str| out.join(format!("{name}.{end}"));
+    let pairs = names.iter().map(|old| format!("{old} {name}_{old}\n"));
+    write(&file("names"), &pairs.collect::<String>());
+    let script = format!("SECTIONS {{ .text : SUBALIGN({place}) {{ *(.text .text.*) }} }}\n");
+    write(&file("ld"), &script);
+    let mut joined = Command::new("ld");
+    joined
+        .args(["--relocatable", "--whole-archive"])
+        .arg(library);
+    joined.arg("--script").arg(file("ld"));
+    said(joined.arg("--output").arg(file("o")));
+    let mut renamed = Command::new("objcopy");
+    renamed.arg("--set-section-alignment=.text=4096");
+    renamed.arg(format!("--redefine-syms={}", file("names").display()));
+    said(renamed.arg(file("o")));
+    file("o")
+}
+
+/// What a command prints; the build ends where it fails.
+fn said(command: &mut Command) -> String {
+    let name = command.get_program().to_string_lossy().into_owned();
+    match command.output() {
+        Err(error) => stop(&format!(
+            "the command `{name}` could not be started ({error}); SAFETEAL_BEFORE needs it, nm, ld, objcopy and ar"
+        )),
+        Ok(run) if !run.status.success() => stop(&format!(
+            "`{name}` failed ({}):\n{}",
+            run.status,
+            String::from_utf8_lossy(&run.stderr)
+        )),
+        Ok(run) => String::from_utf8_lossy(&run.stdout).into_owned(),
+    }
 }
 
 /// Proves the crate `host` and writes target/staticlib/libhost.a in the project's root.

@@ -1,5 +1,7 @@
 //! Each call beside the Rust on one thread: the same inputs, in one run, by turns.
 
+#[cfg(before)]
+pub mod before;
 pub mod report;
 pub mod scene;
 

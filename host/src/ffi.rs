@@ -2,7 +2,38 @@
 //!
 //! No other module of this package has unsafe code. An answer of `u64` is `count * 256 + number`, but for the single
 //! floats at the end.
+//!
+//! Where the package is built with another library beside this one (`SAFETEAL_BEFORE`), a copy of either is called.
 #![allow(unsafe_code, clippy::too_many_arguments)]
+
+/// The copies of each library; they differ in where their functions stand.
+#[cfg(before)]
+pub const COPIES: usize = 8;
+
+/// The copy that is called: of this library, or, from number `COPIES` on, of the other.
+#[cfg(before)]
+pub static COPY: std::sync::atomic::AtomicUsize = std::sync::atomic::AtomicUsize::new(0);
+
+/// A function of each copy, by the types of its arguments in C.
+#[cfg(before)]
+macro_rules! copies {
+    ($name:ident $types:tt $answer:ident) => {
+        copies!([
+            "now0" "now1" "now2" "now3" "now4" "now5" "now6" "now7"
+            "before0" "before1" "before2" "before3" "before4" "before5" "before6" "before7"
+        ] $name $types $answer)
+    };
+    ([$($copy:literal)*] $name:ident $types:tt $answer:ident) => {
+        [$(copies!($copy $name $types $answer)),*]
+    };
+    ($copy:literal $name:ident ($($type:ty,)*) $answer:ident) => {{
+        extern "C" {
+            #[link_name = concat!($copy, "_safeteal_", stringify!($name))]
+            fn copy($(_: $type),*) -> $answer;
+        }
+        copy as unsafe extern "C" fn($($type),*) -> $answer
+    }};
+}
 
 /// For each function of the list its declaration, where a slice is a pointer and a length in elements, and the safe
 /// function over it. A name in brackets stands for a group of arguments.
@@ -53,12 +84,17 @@ macro_rules! proved {
     ) => {
         $($doc)*
         pub fn $name($($arg: $(&[$read])? $(&mut [$written])? $($number)?),*) -> $answer {
+            #[cfg(not(before))]
             extern "C" {
                 #[link_name = concat!("safeteal_", stringify!($name))]
                 fn call(
                     $($(_: *const $read, _: usize,)? $(_: *mut $written, _: usize,)? $(_: $number,)?)*
                 ) -> $answer;
             }
+            #[cfg(before)]
+            let call = copies!($name (
+                $($(*const $read, usize,)? $(*mut $written, usize,)? $($number,)?)*
+            ) $answer)[COPY.load(std::sync::atomic::Ordering::Relaxed)];
             // SAFETY: each pointer and the length after it are those of one slice, borrowed until the call returns; the
             // borrows keep written slices apart from all others, and the proved function has no other requirement. An
             // empty slice's pointer is dangling, but aligned and not null.

@@ -1,12 +1,14 @@
-//! The C interface is written down three times: where it is proved, in `src/ffi.rs`, and in `safeteal.h`. They say the same.
+//! The C interface is written down three times: where it is proved, in `src/ffi.rs`, and in `safeteal.h`. They say the same,
+//! and the library, the differential run and the benchmark have no other declarations.
 
-use std::collections::BTreeMap;
+#[cfg(not(oracle_absent))]
+use std::collections::BTreeSet;
 use std::fs;
 use std::path::Path;
 use std::process::Command;
 
-/// Each function's parameters and, at the end, its answer: `*const u8 luma`, `usize luma_len`, .., `u64`.
-type Interface = BTreeMap<String, Vec<String>>;
+/// Each function's name, its parameters in order and, at the end, its answer: `*const u8 luma`, `usize luma_len`, .., `u64`.
+type Interface = Vec<(String, Vec<String>)>;
 
 fn read(file: &Path) -> String {
     fs::read_to_string(file).unwrap_or_else(|error| panic!("{}: {error}", file.display()))
@@ -16,19 +18,28 @@ fn package() -> &'static Path {
     Path::new(env!("CARGO_MANIFEST_DIR"))
 }
 
-/// As it is proved: a slice is a pointer and a length.
+/// As it is proved: a slice is a pointer and a length, however long it is borrowed (`&'b [u8]`).
 fn proved() -> Interface {
     let parameter = |text: &str| {
         let (name, kind) = text.trim().split_once(": ").expect("a name and a type");
-        let slice = |prefix: &str| kind.strip_prefix(prefix)?.strip_suffix(']');
-        match (slice("&mut ["), slice("&[")) {
-            (Some(of), _) => vec![format!("*mut {of} {name}"), format!("usize {name}_len")],
-            (_, Some(of)) => vec![format!("*const {of} {name}"), format!("usize {name}_len")],
-            _ => vec![format!("{kind} {name}")],
+        let slice = || kind.strip_prefix('&')?.strip_suffix(']')?.split_once('[');
+        let pointer = |to: &str| vec![format!("*{to} {name}"), format!("usize {name}_len")];
+        let Some((borrowed, of)) = slice() else {
+            return vec![format!("{kind} {name}")];
+        };
+        let words: Vec<&str> = borrowed.split_whitespace().collect();
+        match words[..] {
+            [] => pointer(&format!("const {of}")),
+            [lifetime] if lifetime.starts_with('\'') => pointer(&format!("const {of}")),
+            ["mut"] => pointer(&format!("mut {of}")),
+            [lifetime, "mut"] if lifetime.starts_with('\'') => pointer(&format!("mut {of}")),
+            _ => panic!("{name}: the type {kind:?}"),
         }
     };
     let function = |text: &str| {
         let (name, rest) = text.split_once('(').expect("parameters");
+        // the lifetimes' names stand between the function's name and its parameters
+        let name = name.split('<').next().expect("a name");
         let (parameters, rest) = rest.split_once(") -> ").expect("an answer");
         let parameters = parameters.trim_end().trim_end_matches(',').split(',');
         let answer = rest.split_whitespace().next().map(str::to_owned);
@@ -99,10 +110,54 @@ fn the_declarations_are_those_that_are_proved() {
     let (proved, declared, header) = (proved(), declared(), header());
     assert_eq!(proved.len(), 15);
     assert_eq!((declared.len(), header.len()), (15, 15));
-    for (name, lines) in &proved {
-        assert_eq!(declared.get(name), Some(lines), "{name} in src/ffi.rs");
-        assert_eq!(header.get(name), Some(lines), "{name} in safeteal.h");
+    for ((name, _), (other, _)) in declared.iter().zip(&header) {
+        assert_eq!(name, other, "src/ffi.rs and safeteal.h have one order");
     }
+    for (name, lines) in &proved {
+        let of = |interface: &Interface| {
+            let found = interface.iter().find(|(other, _)| other == name);
+            found.map(|(_, lines)| lines.clone())
+        };
+        assert_eq!(of(&declared).as_ref(), Some(lines), "{name} in src/ffi.rs");
+        assert_eq!(of(&header).as_ref(), Some(lines), "{name} in safeteal.h");
+    }
+}
+
+/// Nothing in the package but `src/ffi.rs` declares a function in C.
+#[test]
+fn there_are_no_other_declarations() {
+    let mut folders = vec![package().join("src")];
+    let mut files = Vec::new();
+    while let Some(folder) = folders.pop() {
+        for entry in fs::read_dir(&folder).expect("a folder of the package") {
+            let path = entry.expect("a file of the package").path();
+            let list = if path.is_dir() {
+                &mut folders
+            } else {
+                &mut files
+            };
+            list.push(path);
+        }
+    }
+    files.retain(|file| read(file).contains("extern \"C\""));
+    assert_eq!(files, [package().join("src/ffi.rs")]);
+}
+
+/// The differential run compares, and the benchmark measures, each function that is proved, under its name and through its
+/// declaration; but for the two of single floats, which are run on all floats.
+#[cfg(not(oracle_absent))]
+#[test]
+fn each_function_is_compared_and_measured() {
+    let mut proved: BTreeSet<String> = proved().into_iter().map(|(name, _)| name).collect();
+    for single in ["safeteal_pixel", "safeteal_stored"] {
+        assert!(proved.remove(single), "{single}");
+    }
+    let named = |name: &str| format!("safeteal_{name}");
+    let compared = safeteal::check::CALLS.iter().map(|call| named(call.name));
+    assert_eq!(compared.collect::<BTreeSet<_>>(), proved);
+    let workloads = safeteal::bench::CALLS.iter().copied().flatten();
+    let measured = workloads.map(|workload| named(workload.call));
+    assert_eq!(measured.collect::<BTreeSet<_>>(), proved);
 }
 
 /// The example compiles as it stands, links with the library alone, and ends well.

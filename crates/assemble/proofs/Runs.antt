@@ -4,10 +4,10 @@ use mathlib.Core.Bool.{true}
 use Prim.Native.Nat.{ℕ}
 use Rattle.rules.specs.Domain.{areSizes, isRatio}
 use Rattle.laws.proofs.Accepted.{sizes-in, ratio-in}
-use Rattle.offsets.specs.Grid.{Formed}
-use Rattle.assemble.specs.Call.{gridOf}
+use Rattle.assemble_offsets.specs.Sizes.{Formed}
+use Rattle.assemble.specs.Call.{sizesOf}
 
-pub formed : (width height ratio : ℕ) → areSizes (width, height) ≡ true → isRatio ratio (width, height) ≡ true → Formed (gridOf width height ratio)
+pub formed : (width height ratio : ℕ) → areSizes (width, height) ≡ true → isRatio ratio (width, height) ≡ true → Formed (sizesOf width height ratio)
 formed width height ratio sizes ratios =
     let s = sizes-in (width, height) sizes in
     let r = ratio-in (width, height) ratio s ratios in
@@ -15,8 +15,8 @@ formed width height ratio sizes ratios =
       wide = s .0;
       tall = s .1;
       ratio = r .few;
-      half-is = refl;
-      rows-is = refl;
+      across-is = refl;
+      down-is = refl;
       across = r .whole-across;
       down = r .whole-down;
       narrow = r .across;

@@ -1,31 +1,24 @@
 // Assembly: models and a cover as the numbers of a layer.
-use offsets::Grid;
+use assemble_offsets::Sizes;
 use rules::Answer;
 ghost use mathlib.Core.Path.{_≡_};
 ghost use mathlib.Core.Bool.{true};
-ghost use Rattle.rules.specs.Domain.{areSizes};
 ghost use Rattle.rules.specs.Refusals.{firstFitting, assembleTable};
-ghost use Rattle.offsets.specs.Grid.{Formed, modelsLong};
-ghost use Rattle.store.specs.Entries.{coverLong, Room};
-ghost use Rattle.assemble.specs.Call.{gridOf, callOf, Assembled, Done};
-
-// A width and a height.
-pub fn sizes(width: usize, height: usize) -> bool
-    ensures { λ r. ⌜ r ≡ areSizes (width, height) ⌝ }
-{
-    plane::both(plane::sized(width), plane::sized(height))
-}
+ghost use Rattle.assemble_offsets.specs.Sizes.{Formed, modelsLong};
+ghost use Rattle.assemble_store.specs.Entries.{coverLong, Room};
+ghost use Rattle.calls.specs.Lent.{fitOf, assembleCall};
+ghost use Rattle.assemble.specs.Call.{sizesOf, Assembled, AssembleAnswered};
 
 // Chroma's width and height with luma's.
-pub fn grid(width: usize, height: usize, ratio: usize) -> Grid
-    ensures { λ r. ⌜ r ≡ gridOf width height ratio ⌝ }
+pub fn sizes_of(width: usize, height: usize, ratio: usize) -> Sizes
+    ensures { λ r. ⌜ r ≡ sizesOf width height ratio ⌝ }
 {
-    Grid {
+    Sizes {
         width,
         height,
         ratio,
-        half: plane::divided(width, ratio),
-        rows: plane::divided(height, ratio),
+        chroma_width: plane::divided(width, ratio),
+        chroma_height: plane::divided(height, ratio),
     }
 }
 
@@ -40,9 +33,11 @@ fn refusal(
     models: &[f32],
     cover: &[u8],
 ) -> u8
-    ensures { λ r. ⌜ r ≡ firstFitting (assembleTable (callOf (now (luma .entry)) (now (chroma1 .entry)) (now (chroma2 .entry)) width height ratio (now (models .entry)) (now (cover .entry))) true) ⌝ }
+    ensures { λ r. ⌜
+        r ≡ firstFitting (assembleTable
+        (assembleCall width height ratio (now (models .entry)) (now (cover .entry)) (fitOf (now (luma .entry)) (now (chroma1 .entry)) (now (chroma2 .entry)))) true) ⌝ }
 {
-    let first = sizes(width, height);
+    let first = plane::sizes(width, height);
     let second = plane::ratioed(ratio, width, height);
     let third = plane::exact(models.len(), 4, width, height);
     let fourth = table::exact_cover(cover.len(), width, height);
@@ -75,15 +70,18 @@ pub fn assembled(
     luma: &mut [i16],
     chroma1: &mut [i16],
     chroma2: &mut [i16],
-    g: Grid,
+    sizes: Sizes,
     models: &[f32],
     cover: &[u8],
 ) -> u8
-    requires { ⌜ Formed g × modelsLong (now models) g × coverLong (now cover) g × Room (now luma) (now chroma1) (now chroma2) g ⌝ }
-    ensures { λ r. ⌜ Assembled g (now (models .entry)) (now (cover .entry)) (now (luma .entry)) (now (chroma1 .entry)) (now (chroma2 .entry)) (now (luma .exit)) (now (chroma1 .exit)) (now (chroma2 .exit)) r ⌝ }
+    requires { ⌜ Formed sizes × modelsLong (now models) sizes × coverLong (now cover) sizes × Room (now luma) (now chroma1) (now chroma2) sizes ⌝ }
+    ensures { λ r. ⌜
+        Assembled sizes (now (models .entry)) (now (cover .entry))
+        (now (luma .entry)) (now (chroma1 .entry)) (now (chroma2 .entry))
+        (now (luma .exit)) (now (chroma1 .exit)) (now (chroma2 .exit)) r ⌝ }
 {
-    if offsets::totals_fit(g, models) {
-        store::store(luma, chroma1, chroma2, g, models, cover);
+    if assemble_offsets::totals_fit(sizes, models) {
+        assemble_store::store(luma, chroma1, chroma2, sizes, models, cover);
         return 0;
     }
     8
@@ -100,13 +98,16 @@ pub fn assemble(
     models: &[f32],
     cover: &[u8],
 ) -> Answer
-    ensures { λ r. ⌜ Done (callOf (now (luma .entry)) (now (chroma1 .entry)) (now (chroma2 .entry)) width height ratio (now (models .entry)) (now (cover .entry))) (now (luma .exit)) (now (chroma1 .exit)) (now (chroma2 .exit)) r ⌝ }
+    ensures { λ r. ⌜
+        AssembleAnswered
+        (assembleCall width height ratio (now (models .entry)) (now (cover .entry)) (fitOf (now (luma .entry)) (now (chroma1 .entry)) (now (chroma2 .entry))))
+        (now (luma .exit)) (now (chroma1 .exit)) (now (chroma2 .exit)) r ⌝ }
 {
     let number = refusal(luma, chroma1, chroma2, width, height, ratio, models, cover);
     if number != 0 {
         return Answer { number, count: 0 };
     }
-    let g = grid(width, height, ratio);
-    let number = assembled(luma, chroma1, chroma2, g, models, cover);
+    let sizes = sizes_of(width, height, ratio);
+    let number = assembled(luma, chroma1, chroma2, sizes, models, cover);
     Answer { number, count: 0 }
 }

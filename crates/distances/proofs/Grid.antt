@@ -7,7 +7,7 @@ use native.Mathlib.Decide.{ℕ-discrete, decLt}
 use native.Mathlib.Omega.{arith}
 use lib.ListN.{length, getD}
 use Rattle.rules.specs.Distances.{chess, least, whole, nearestTo}
-use Rattle.laws.proofs.Lists.{least-small}
+use Rattle.laws.proofs.Marks.{least-small}
 use Rattle.distances.specs.Pass.{Within, Smooth}
 
 -- ---- columns and rows

@@ -16,7 +16,7 @@ use Rattle.laws.proofs.Lists.{length-tabulate, getD-tabulate}
 use Rattle.distances.specs.Level.{Level}
 use Rattle.distances.proofs.Grid.{chess→, →chess, nearest-own, nearest-smooth, exact}
 -- ---- (a) the cells grow with the old ones
-pub use Rattle.laws.proofs.Lists.{distances-mono}
+pub use Rattle.laws.proofs.Marks.{distances-mono}
 
 -- ---- the definition, cell by cell
 

@@ -11,7 +11,7 @@ use borrow.Author.Tests.{le-leb, lt-leb}
 use Rattle.rules.specs.Calls.{DistancesCall}
 use Rattle.rules.specs.Refusals.{firstFitting, distancesRefusal}
 use Rattle.rules.specs.Distances.{whole, distances}
-use Rattle.distances.specs.Call.{Done}
+use Rattle.distances.specs.Call.{DistancesAnswered}
 use Rattle.distances.specs.Pass.{lowestOf, Rows, Within, Smooth, Down, Back, Kept, Passed}
 use Rattle.distances.proofs.Grid.{spot, row-in, nearest-own, exact}
 use Rattle.distances.proofs.Laws.{as-table}
@@ -133,13 +133,13 @@ module _ (old : List ℕ) (w : ℕ) where
   abbrev call : DistancesCall
   call = record { cells = old; width = w }
 
-  pub refused : w ≡ 0 → Done call old (record { number = 1; count = 0 })
+  pub refused : w ≡ 0 → DistancesAnswered call old (record { number = 1; count = 0 })
   unfolding distancesRefusal firstFitting
   refused e = let t = lt-leb 1 w (omega arith) in record { answer = simp t; cells = simp t }
 
   -- both passes make the distances
   pub ran : (n : ℕ) (mid new : List ℕ) → 0 < w → n ≡ whole old w → ((k : ℕ) → getD new k 0 ≤ 255)
-      → Passed (Down w 0) (Down w n) w old mid → Passed (Back w n n) (Back w n 0) w mid new → Done call new (record { number = 0; count = 0 })
+      → Passed (Down w 0) (Down w n) w old mid → Passed (Back w n n) (Back w n 0) w mid new → DistancesAnswered call new (record { number = 0; count = 0 })
   unfolding distancesRefusal firstFitting
   ran n mid new z e small f g =
       let t = le-leb 1 w (omega arith) in

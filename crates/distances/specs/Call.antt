@@ -8,6 +8,6 @@ use Rattle.rules.specs.Calls.{DistancesCall}
 use Rattle.rules.specs.Refusals.{distancesRefusal}
 use Rattle.rules.specs.Distances.{distancesLeaves}
 
-pub record Done (c : DistancesCall) (left : List ℕ) (r : Answer) : Type 0 where
+pub record DistancesAnswered (c : DistancesCall) (left : List ℕ) (r : Answer) : Type 0 where
   pub answer : r ≡ uncounted (distancesRefusal c)
   pub cells : left ≡ distancesLeaves c

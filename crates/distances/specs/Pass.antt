@@ -1,4 +1,5 @@
--- What the two passes say of the cells on the way: the first goes from the first cell to the last, the second back. w is the width.
+-- What the two passes say of the cells on the way: the first goes from the first cell to the last, the second back. w
+-- is the width.
 use mathlib.Core.Path.{_≡_}
 use mathlib.Core.Logic.{_⊎_}
 use mathlib.Core.List.{List}

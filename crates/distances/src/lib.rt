@@ -4,7 +4,7 @@ ghost use mathlib.Core.Path.{_≡_};
 ghost use Prim.Native.Nat.{_+_, _-_, _/_, _≤_, _<_, min};
 ghost use lib.ListN.{length};
 ghost use Rattle.rules.specs.Distances.{whole};
-ghost use Rattle.distances.specs.Call.{Done};
+ghost use Rattle.distances.specs.Call.{DistancesAnswered};
 ghost use Rattle.distances.specs.Pass.{Inside, lowestOf, Rows, Passed, Down, Back};
 
 // The number step below at, 0 where there is none.
@@ -23,10 +23,10 @@ fn ahead(at: usize, step: usize, last: usize) -> usize
 }
 
 // The lesser of two.
-fn lesser(a: u8, b: u8) -> u8
-    ensures { λ r. ⌜ r ≡ min a b ⌝ }
+fn lesser(one: u8, other: u8) -> u8
+    ensures { λ r. ⌜ r ≡ min one other ⌝ }
 {
-    if a < b { a } else { b }
+    if one < other { one } else { other }
 }
 
 // The lesser of best and 1 more than other.
@@ -49,7 +49,8 @@ fn lowest(cells: &[u8], at: usize, left: usize, mid: usize, right: usize, beside
     nearer(nearer(own, row), beside)
 }
 
-// A row of the first pass, from left to right. Columns and rows are held to the grid: a cell may be read as its own neighbour, which lowers nothing.
+// A row of the first pass, from left to right. Columns and rows are held to the grid: a cell may be read as its own
+// neighbour, which lowers nothing.
 fn row_down(cells: &mut [u8], row: usize, up: usize, width: usize)
     requires { ⌜ Rows width (length (now cells)) (row / width) (row / width - 1) row up ⌝ }
     ensures { λ _. ⌜ Passed (Down width row) (Down width (row + width)) width (now (cells .entry)) (now (cells .exit)) ⌝ }
@@ -83,13 +84,13 @@ fn row_back(cells: &mut [u8], row: usize, down: usize, width: usize)
     }
 }
 
-// The first pass, over the n cells of the complete rows.
-fn pass_down(cells: &mut [u8], width: usize, n: usize)
-    requires { ⌜ (0 < width) × (n ≡ whole (now cells) width) ⌝ }
-    ensures { λ _. ⌜ Passed (Down width 0) (Down width n) width (now (cells .entry)) (now (cells .exit)) ⌝ }
+// The first pass, over so many cells, those of the complete rows.
+fn pass_down(cells: &mut [u8], width: usize, count: usize)
+    requires { ⌜ (0 < width) × (count ≡ whole (now cells) width) ⌝ }
+    ensures { λ _. ⌜ Passed (Down width 0) (Down width count) width (now (cells .entry)) (now (cells .exit)) ⌝ }
 {
     let mut row = 0;
-    while row < n {
+    while row < count {
         let up = behind(row, width);
         row_down(cells, row, up, width);
         row += width;
@@ -97,22 +98,22 @@ fn pass_down(cells: &mut [u8], width: usize, n: usize)
 }
 
 // The second pass.
-fn pass_back(cells: &mut [u8], width: usize, n: usize)
-    requires { ⌜ (0 < width) × (n ≡ whole (now cells) width) ⌝ }
-    ensures { λ _. ⌜ Passed (Back width n n) (Back width n 0) width (now (cells .entry)) (now (cells .exit)) ⌝ }
+fn pass_back(cells: &mut [u8], width: usize, count: usize)
+    requires { ⌜ (0 < width) × (count ≡ whole (now cells) width) ⌝ }
+    ensures { λ _. ⌜ Passed (Back width count count) (Back width count 0) width (now (cells .entry)) (now (cells .exit)) ⌝ }
 {
-    let mut row = n;
+    let mut row = count;
     while 0 < row {
         row -= width;
-        let down = ahead(row, width, n - width);
+        let down = ahead(row, width, count - width);
         row_back(cells, row, down, width);
     }
 }
 
-// In the complete rows of this width each cell becomes the least of 255 and of the old cells plus their chessboard distance to it. The tail
-// stays. Width 0 is refused.
+// In the complete rows of this width each cell becomes the least of 255 and of the old cells plus their chessboard
+// distance to it. The tail stays. Width 0 is refused.
 pub fn distances(cells: &mut [u8], width: usize) -> Answer
-    ensures { λ r. ⌜ Done (record { cells = now (cells .entry); width = width }) (now (cells .exit)) r ⌝ }
+    ensures { λ r. ⌜ DistancesAnswered (record { cells = now (cells .entry); width = width }) (now (cells .exit)) r ⌝ }
 {
     if width == 0 {
         return Answer {
@@ -120,9 +121,9 @@ pub fn distances(cells: &mut [u8], width: usize) -> Answer
             count: 0,
         };
     }
-    let n = cells.len() / width * width;
-    pass_down(cells, width, n);
-    pass_back(cells, width, n);
+    let count = cells.len() / width * width;
+    pass_down(cells, width, count);
+    pass_back(cells, width, count);
     Answer {
         number: 0,
         count: 0,

@@ -1,7 +1,7 @@
--- The cells of a layer: a mark is a 0, one mark is enough, and an accepted layer has all its rows of cells. Assumes nothing.
+-- The cells of a layer: a mark is a 0, one mark is enough, and an accepted layer has all its rows of cells. Assumes
+-- nothing.
 use mathlib.Core.Path.{_≡_, refl, ap, _∙_}
 use mathlib.Core.Bool.{Bool, true, false, _&&_}
-use mathlib.Core.List.{List}
 use mathlib.Core.Logic.{⊎-elim}
 use Prim.Native.Nat.{ℕ, zero, suc, _-_, _*_, _/_, _^_, _≤_, _<_}
 use native.Mathlib.Nat.{eq-or-lt-of-le, mul-le-mul-left}
@@ -12,11 +12,12 @@ use lib.IntN.{ℤ, pos, negsuc}
 use lib.Signed.{mag}
 use mir.Syntax.{w16}
 use mir.Val.{ofZ}
-use Rattle.rules.specs.Forms.{Layer, turns, all, each, cells, isNumber}
+use Rattle.rules.specs.Forms.{turns, all, each, cells, isNumber}
 use Rattle.rules.specs.Refusals.{firstFitting, emptyRefusal}
-use Rattle.lent.specs.declared.Shape.{Shape}
-use Rattle.lent.specs.Lent.{planOf}
-use Rattle.refuse.proofs.Accepted.{accepted}
+use Rattle.layer_lent.specs.declared.Shape.{Shape}
+use Rattle.layer_lent.specs.Lent.{Numbers, Bytes, lay, planOf}
+use Rattle.plane.specs.Slices.{slice}
+use Rattle.layer_refuse.proofs.Accepted.{accepted}
 use Rattle.empty.specs.Marks.{InRows}
 
 -- the test of a number's bits
@@ -42,21 +43,18 @@ all-false (suc n) k test below e =
 cells-in : (n r : ℕ) → r ≤ 4 → n / r * r ≡ n → cells n ≤ n / r
 cells-in n r few whole = let m = mul-le-mul-left (n / r) few in omega arith
 
--- the shape that a layer of numbers has
-abbrev shape : Layer → Shape
-shape l = record { packed = false; luma = l .pitch .0; chroma = l .pitch .1; width = l .size .0; height = l .size .1; ratio = l .ratio; plane = 0 }
-
 -- the rows of cells of a layer that is not refused
-pub in-rows : (l : Layer) (none : List ℕ) → emptyRefusal l ≡ 0 → InRows (planOf (shape l)) (l .chroma .1) none (cells (l .size .0)) (cells (l .size .1))
+pub in-rows : (s : Shape) (numbers : Numbers) (bytes : Bytes) → s .plane ≡ 0 → emptyRefusal (lay s numbers bytes) ≡ 0
+    → InRows (planOf s) (slice numbers 2) (slice bytes 2) (cells (s .width)) (cells (s .height))
 unfolding emptyRefusal firstFitting each
-in-rows l none e =
-    let sound = accepted (shape l) (l .luma) none (l .chroma .0) none (l .chroma .1) none true true 0 e .sound in
+in-rows s numbers bytes luma e =
+    let sound = accepted s numbers bytes true true 0 (rw luma e) .sound in
     let f = sound .planned .formed in
-    let w = cells-in (l .size .0) (l .ratio) (f .ratio .1) (f .whole-across) in
+    let w = cells-in (s .width) (s .ratio) (f .ratio .1) (f .whole-across) in
     let pitch = f .chroma-pitch in
     record {
       planned = sound .planned;
       long = sound .second-long;
       wide = omega arith;
-      tall = cells-in (l .size .1) (l .ratio) (f .ratio .1) (f .whole-down);
+      tall = cells-in (s .height) (s .ratio) (f .ratio .1) (f .whole-down);
     }

@@ -5,12 +5,12 @@ use Prim.Native.Nat.{ℕ, _≤_, _<_}
 use lib.IntN.{ℤ}
 use Rattle.rules.specs.Forms.{Layer, all, isNumber}
 use Rattle.rules.specs.Reading.{cell}
-use Rattle.lent.specs.declared.Plan.{Plan}
-use Rattle.lent.specs.Lent.{lent, holding, chromaLong, Planned}
+use Rattle.layer_lent.specs.declared.Plan.{Plan}
+use Rattle.layer_lent.specs.Lent.{lent, holding, chromaLong, Planned}
 
 -- a layer, of which the cells are read alone
 abbrev pub celled : Plan → List ℤ → List ℕ → Layer
-celled p b bb = holding (p .shape) [] [] (lent (p .shape .packed) b bb)
+celled p numbers bytes = holding (p .shape) [] [] (lent (p .shape .packed) numbers bytes)
 
 -- the number of this cell is not 0
 abbrev pub unmarked : Layer → (x y : ℕ) → Bool
@@ -25,15 +25,15 @@ abbrev pub rowsUnmarked : Layer → (width height : ℕ) → Bool
 rowsUnmarked l width height = all height (λ y. rowUnmarked l y width)
 
 -- so many cells of a row, in a layer that is not refused
-pub record InRow (p : Plan) (b : List ℤ) (bb : List ℕ) (y width : ℕ) : Type 0 where
+pub record InRow (p : Plan) (numbers : List ℤ) (bytes : List ℕ) (y width : ℕ) : Type 0 where
   pub planned : Planned p
-  pub long : chromaLong p (lent (p .shape .packed) b bb)
-  pub wide : width ≤ p .shape .chroma
+  pub long : chromaLong p (lent (p .shape .packed) numbers bytes)
+  pub wide : width ≤ p .shape .«chroma_pitch»
   pub above : y < p .rows
 
 -- so many rows of them
-pub record InRows (p : Plan) (b : List ℤ) (bb : List ℕ) (width height : ℕ) : Type 0 where
+pub record InRows (p : Plan) (numbers : List ℤ) (bytes : List ℕ) (width height : ℕ) : Type 0 where
   pub planned : Planned p
-  pub long : chromaLong p (lent (p .shape .packed) b bb)
-  pub wide : width ≤ p .shape .chroma
+  pub long : chromaLong p (lent (p .shape .packed) numbers bytes)
+  pub wide : width ≤ p .shape .«chroma_pitch»
   pub tall : height ≤ p .rows

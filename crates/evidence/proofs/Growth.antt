@@ -3,10 +3,10 @@ use mathlib.Core.Path.{_≡_, refl, sym, ap, subst}
 use mathlib.Core.Logic.{_⊎_, inl, inr}
 use mathlib.Core.Bool.{Bool, true, false, not, cond, _&&_}
 use mathlib.Core.List.{List}
-use Prim.Native.Nat.{ℕ, _*_, _≤_, _/_, _%_}
+use Prim.Native.Nat.{ℕ, _≤_, _/_, _%_}
 use native.Mathlib.Omega.{arith}
 use lib.Dec.{T, leb, eqb, leb→le, le→leb}
-use lib.ListN.{length, getD}
+use lib.ListN.{getD}
 use lib.Ieee as Ieee
 use lib.Ieee.{Float}
 use lib.Ieee.Fits.{and-i, and-l, and-r}
@@ -17,6 +17,7 @@ use Rattle.rules.specs.Forms.{Parts, any, cells, area}
 use Rattle.rules.specs.Literals.{1·7, 4·0}
 use Rattle.rules.specs.Float.{_⊕_, _⊗_, _≺_, _≼_}
 use Rattle.rules.specs.Calls.{FitCall}
+use Rattle.rules.specs.Domain.{coverLength}
 use Rattle.rules.specs.Model.{Fitted, unfitted, plain, set, isPlain}
 use Rattle.rules.specs.Window.{found, pick, window, fitted}
 use Rattle.rules.specs.Keeping.{modelOf, near, kept, cellOf, marks, cover, keptModels}
@@ -25,7 +26,8 @@ use Rattle.rules.specs.Fit.{rough, fitModels, fitCover}
 use Rattle.laws.proofs.Order.{le-trans-float}
 use Rattle.laws.proofs.Value.{T-of}
 use Rattle.laws.proofs.Points.{set-plain}
-use Rattle.laws.proofs.Lists.{either, length-tabulate, tabulate-both, any-mono, howMany-mono, distances-mono, distances-small}
+use Rattle.laws.proofs.Lists.{tabulate-both, any-mono, howMany-mono}
+use Rattle.laws.proofs.Marks.{marks-lower, marks-small}
 use Rattle.evidence.specs.Evidence.{FitTwice}
 
 -- ---- the window
@@ -121,27 +123,9 @@ module _ (r r' : List Fitted) (g : Grows r r') (size : ℕ × ℕ) where
       (kept-grows k (and-r (set (modelOf r k)) (kept r size k) both) .1))
       (and-r (set (modelOf r k) && kept r size k) here t)
 
-  cover-lower : (k : ℕ) → getD (cover r' size) k 0 ≤ getD (cover r size) k 0
-  unfolding cover
-  cover-lower k =
-      tabulate-both (λ a b. a ≤ b) (cells (size .0) * cells (size .1)) _ _ 0 0 k
-      (λ below. go (any (area size) (marks r size k)) (any (area size) (marks r' size k)) (any-mono (area size) _ _ (marks-grow k)))
-      (omega arith)
-    where
-      go : (b b' : Bool) → (T b → T b') → cond b' 0 255 ≤ cond b 0 255
-      go true true h = omega arith
-      go true false h = absurd (h tt)
-      go false true h = omega arith
-      go false false h = omega arith
-
-cover-small : (r : List Fitted) (size : ℕ × ℕ) (k : ℕ) → getD (cover r size) k 0 ≤ 255
-unfolding cover
-cover-small r size k =
-    tabulate-both {B = ℕ} (λ a b. a ≤ 255) (cells (size .0) * cells (size .1)) _ (λ j. 0) 0 0 k (λ below. either (any (area size) (marks r size k)) 0 255 255 (omega arith) (omega arith)) (omega arith)
-
-cover-length : (r : List Fitted) (size : ℕ × ℕ) → length (cover r size) ≡ cells (size .0) * cells (size .1)
-unfolding cover
-cover-length r size = length-tabulate _ _
+-- whether a pixel marks this cell
+abbrev marked : List Fitted → (size : ℕ × ℕ) → (cell : ℕ) → Bool
+marked r size cell = any (area size) (marks r size cell)
 
 -- ---- what fit hands to assembly
 
@@ -153,13 +137,14 @@ module _ (first second : FitCall) (t : FitTwice first second) where
       (models-grow (rough first) (rough second) (rough-grows first second t) (first .size))
 
   pub cover-fit : (k : ℕ) → getD (fitCover second) k 0 ≤ getD (fitCover first) k 0
-  unfolding fitCover
+  unfolding fitCover cover
   cover-fit k =
       let size = first .size in
       subst (λ (s : ℕ × ℕ). getD (distances (cover (rough second) s) (cells (s .0))) k 0 ≤ getD (fitCover first) k 0) (sym (t .size))
-      (distances-mono (cover (rough second) size) (cover (rough first) size) (cells (size .0))
-      (simp (cover-length (rough first) size, cover-length (rough second) size)) (cover-lower (rough first) (rough second) (rough-grows first second t) size) k)
+      (marks-lower (coverLength size) (marked (rough first) size) (marked (rough second) size)
+      (λ cell. any-mono (area size) (marks (rough first) size cell) (marks (rough second) size cell) (marks-grow (rough first) (rough second) (rough-grows first second t) size cell))
+      (cells (size .0)) k)
 
 pub cover-fits : (c : FitCall) (k : ℕ) → getD (fitCover c) k 0 ≤ 255
-unfolding fitCover
-cover-fits c k = distances-small (cover (rough c) (c .size)) (cells (c .size .0)) (cover-small (rough c) (c .size)) k
+unfolding fitCover cover
+cover-fits c = marks-small (coverLength (c .size)) (marked (rough c) (c .size)) (cells (c .size .0))

@@ -17,11 +17,11 @@ use Rattle.rules.specs.declared.Offset.{Offset}
 use Rattle.rules.specs.declared.Model.{Model}
 use Rattle.rules.specs.Forms.{Layer, cells, area}
 use Rattle.rules.specs.Literals.{64·0, 4096·0}
-use Rattle.rules.specs.Float.{stored, storedOf, rounded, negative}
+use Rattle.rules.specs.Float.{stored, roundedShort, rounded, negative}
 use Rattle.rules.specs.Model.{Fitted, plain, isPlain}
 use Rattle.rules.specs.Keeping.{modelOf}
 use Rattle.rules.specs.Assembly.{storedGain, storedOffset, lumaEntry, cellEntry, assembled}
-use Rattle.rules.specs.Reading.{layerOf, cell, lumaGain, lumaTexel}
+use Rattle.rules.specs.Reading.{asLeft, cell, lumaGain, lumaTexel}
 use Rattle.laws.proofs.Lists.{place-in, getD-tabulate, tabulate-both}
 use Rattle.laws.proofs.Points.{stored-small}
 use Rattle.evidence.specs.Evidence.{pair, noPair}
@@ -46,19 +46,19 @@ offset-entry m n i =
     rw (le-ltb (n + i) n (omega arith), back)
 
 -- what is stored of a model
-abbrev pub pairOf : Model → Gain × Offset
-pairOf m = (storedGain (m .gain), storedOffset (m .offset))
+abbrev pub storedPair : Model → Gain × Offset
+storedPair m = (storedGain (m .gain), storedOffset (m .offset))
 
-pub pair-plain : pairOf plain ≡ noPair
-unfolding stored storedOf rounded negative Ieee.mul Ieee.ofBits
+pub pair-plain : storedPair plain ≡ noPair
+unfolding stored roundedShort rounded negative Ieee.mul Ieee.ofBits
 pair-plain = refl
 
 -- the layer that is assembled of models and a cover
 abbrev pub made : List Fitted → List ℕ → (size : ℕ × ℕ) → (ratio : ℕ) → Layer
-made m v size ratio = layerOf (assembled m v size ratio) size ratio
+made m v size ratio = asLeft (assembled m v size ratio) size ratio
 
 module _ (m : List Fitted) (v : List ℕ) (size : ℕ × ℕ) (ratio x y : ℕ) (across : x < size .0) (down : y < size .1) where
-  pub pair-is : pair (made m v size ratio) x y ≡ pairOf (modelOf m (y * size .0 + x))
+  pub pair-is : pair (made m v size ratio) x y ≡ storedPair (modelOf m (y * size .0 + x))
   unfolding assembled
   pair-is =
       let i = y * size .0 + x in
@@ -79,9 +79,9 @@ module _ (m : List Fitted) (v : List ℕ) (size : ℕ × ℕ) (ratio x y : ℕ) 
 
 -- a fact of the cells of two layers, by the same of their covers
 module _ (R : ℤ → ℤ → Type 0) (none : R (pos 0) (pos 0)) (v v' : List ℕ) (each : (k : ℕ) → R (pos (getD v k 0)) (pos (getD v' k 0))) where
-  entry-both : (size : ℕ × ℕ) (half j : ℕ) → R (cellEntry v size half j) (cellEntry v' size half j)
+  entry-both : (size : ℕ × ℕ) (across j : ℕ) → R (cellEntry v size across j) (cellEntry v' size across j)
   unfolding cellEntry
-  entry-both size half j = go (ltb (j % half) (cells (size .0)) && ltb (j / half) (cells (size .1))) _ _ (each _)
+  entry-both size across j = go (ltb (j % across) (cells (size .0)) && ltb (j / across) (cells (size .1))) _ _ (each _)
     where
       go : (b : Bool) (n n' : ℕ) → R (pos n) (pos n') → R (pos (cond b n 0)) (pos (cond b n' 0))
       go true n n' r = r
@@ -106,7 +106,8 @@ texel-plain : isPlain (texelOf noPair) ≡ true
 unfolding lumaTexel isPlain Ieee.eq Ieee.div Ieee.ofInt Ieee.ofBits
 texel-plain = refl
 
--- a pixel that passes a test and has a texel other than (1, 0), and passes the second test too where it passes the first
+-- a pixel that passes a test and has a texel other than (1, 0), and passes the second test too where it passes the
+-- first
 pub layered-still : (b b' : Bool) (p p' : Gain × Offset) → (T b → T b') → Grown noPair p p' → T (b && not (isPlain (texelOf p)))
     → T (b' && not (isPlain (texelOf p'))) × (p' ≡ p)
 layered-still b b' p p' f (inl e) t = absurd (rw (e, texel-plain) at (and-r b (not (isPlain (texelOf p))) t))

@@ -1,7 +1,7 @@
 -- Demand 3, proved. Assumes nothing.
 use mathlib.Core.Path.{_≡_, refl, sym, ap, subst₂}
 use mathlib.Core.Logic.{_⊎_, inl, inr, _≢_}
-use mathlib.Core.Bool.{Bool, true, not, _||_, false≢true, or-false}
+use mathlib.Core.Bool.{Bool, true, _||_, false≢true, or-false}
 use mathlib.Core.List.{List}
 use Prim.Native.Nat.{ℕ, zero, suc, _+_, _*_, _^_, _≤_, _<_, _/_}
 use native.Mathlib.Nat.{le-trans}
@@ -11,35 +11,33 @@ use lib.IntN.{ℤ, pos, negsuc, negℤ, natAbs}
 use lib.Signed.{leZ}
 use lib.Dec.{T, le→leb, lit≤}
 use lib.ListN.{getD}
-use lib.Ieee.{Float}
 use lib.Ieee.Bits.{is-true}
-use lib.Ieee.Fits.{and-i, and-l, and-r}
 use Rattle.rules.specs.declared.Gain.{Gain}
 use Rattle.rules.specs.declared.Offset.{Offset}
 use Rattle.rules.specs.declared.Model.{Model}
 use Rattle.rules.specs.declared.Scene.{Scene}
 use Rattle.rules.specs.declared.Scene.the-variants.{Lifted}
-use Rattle.rules.specs.Forms.{Plane, Layer, Rule, planeRatio, planeSize, painted, counted, answer, leaves}
+use Rattle.rules.specs.Forms.{Plane, Layer, Rule, planeSize, painted, counted, answer, leaves}
 use Rattle.rules.specs.Literals.{0·0, 0·2}
-use Rattle.rules.specs.Float.{_≼_, _≺_, float, abs, pixel}
+use Rattle.rules.specs.Float.{_≼_, float, abs, pixel}
 use Rattle.rules.specs.Calls.{FitCall}
 use Rattle.rules.specs.Refusals.{peelRefusal, unpeelRefusal, renderRefusal}
 use Rattle.rules.specs.Model.{Fitted, unfitted}
 use Rattle.rules.specs.Fit.{fitModels, fitCover, fitRefusal, fitLeaves}
-use Rattle.rules.specs.Reading.{cell, distance, gap, lumaGain, lumaTexel, texel, at, sample}
+use Rattle.rules.specs.Reading.{cell, gap, lumaGain, lumaTexel, texel, at, sample}
 use Rattle.rules.specs.Scene.{value, lift, lifted, under, filled, scene}
 use Rattle.rules.specs.Peel.{layered, peelRule}
 use Rattle.rules.specs.Unpeel.{relaid, unpeelRule}
-use Rattle.rules.specs.Render.{margin, rendered, ownSteps, renderRule}
+use Rattle.rules.specs.Render.{ownSteps, renderRule}
 use Rattle.laws.proofs.Value.{T-of}
-use Rattle.laws.proofs.Order.{le-trans-float, not-shut}
-use Rattle.laws.proofs.Whole.{gap-mono}
+use Rattle.laws.proofs.Order.{le-trans-float}
 use Rattle.laws.proofs.Raster.{painted-at, counted-mono}
 use Rattle.laws.proofs.Points.{model-whole, fifth}
 use Rattle.laws.proofs.Accepted.{Over, place, layer-passed}
+use Rattle.laws.proofs.Marks.{gap-lower, rendered-still}
 use Rattle.evidence.specs.Evidence.{FitTwice, layerLeft, pair, noPair, Later, peelLuma, unpeelLuma, renderPlane, Run, run, Accepted, isLarge, promised, KeepsRun, Keeps, DemandThree}
 use Rattle.evidence.proofs.Growth.{Grown, Grows, models-fit, cover-fit, cover-fits}
-use Rattle.evidence.proofs.Layers.{pairOf, pair-plain, made, pair-is, gain-small, cell-both, texelOf, layered-still}
+use Rattle.evidence.proofs.Layers.{storedPair, pair-plain, made, pair-is, gain-small, cell-both, texelOf, layered-still}
 
 -- ---- two runs of a call
 
@@ -97,16 +95,6 @@ by-size zero z e = omega arith
 by-size (suc n) (pos k) e = leb-true (suc n) k (rw or-false at e)
 by-size (suc n) (negsuc k) e = omega (arith, leb-true n k e)
 
--- what is rendered is rendered at a smaller gap
-rendered-still : (most own g g' : Float) → T (g' ≼ g) → T (rendered g most own) → T (rendered g' most own)
-unfolding rendered
-rendered-still most own g g' h t =
-    let a = margin most in
-    let b = margin own in
-    and-i (not (a ≺ g')) (not (b ≺ g'))
-    (not-shut a g g' h (and-l (not (a ≺ g)) (not (b ≺ g)) t))
-    (not-shut b g g' h (and-r (not (a ≺ g)) (not (b ≺ g)) t))
-
 -- ---- two layers
 
 -- models and covers of two layers: the second's models have what the first's have, and no cell of its cover is higher
@@ -148,7 +136,7 @@ module _ (a : Two) where
       rw (pair-is (a .models) (a .cover) (a .size) (a .ratio) x y across down, pair-is (a .models') (a .cover') (a .size) (a .ratio) x y across down)
       (go _ _ (a .grows (y * a .size .0 + x)))
     where
-      go : (f f' : Fitted) → Grown unfitted f f' → Grown noPair (pairOf (f .model)) (pairOf (f' .model))
+      go : (f f' : Fitted) → Grown unfitted f f' → Grown noPair (storedPair (f .model)) (storedPair (f' .model))
       go f f' (inl e) = inl (rw e pair-plain)
       go f f' (inr e) = inr (rw e)
 
@@ -156,14 +144,9 @@ module _ (a : Two) where
   cell-lower =
       cell-both (λ c' c. T (leZ c' c)) tt (a .cover') (a .cover) (λ k. le→leb _ _ (a .lower k)) (a .models') (a .models) (a .size) (a .ratio)
 
-  gap-lower : (plane x y : ℕ) → T (gap l' plane x y ≼ gap l plane x y)
-  unfolding gap distance
-  gap-lower plane x y =
-      let side = 8 / planeRatio l plane in
-      gap-mono (cell l' (x / side) (y / side)) (cell l (x / side) (y / side))
-      (few (a .cover') (λ k. omega (arith, a .lower k, a .small k)) (a .models') (x / side) (y / side))
-      (few (a .cover) (a .small) (a .models) (x / side) (y / side))
-      (cell-lower (x / side) (y / side))
+  gap-not-larger : (plane x y : ℕ) → T (gap l' plane x y ≼ gap l plane x y)
+  gap-not-larger plane =
+      gap-lower l l' plane refl (few (a .cover') (λ k. omega (arith, a .lower k, a .small k)) (a .models')) (few (a .cover) (a .small) (a .models)) cell-lower
     where
       few : (v : List ℕ) → ((k : ℕ) → getD v k 0 ≤ 255) → (m : List Fitted) (x y : ℕ) → natAbs (cell (made m v (a .size) (a .ratio)) x y) ≤ 2 ^ 15
       few v small m = cell-both (λ c d. natAbs c ≤ 2 ^ 15) (lit≤ tt) v v (λ k. le-trans (small k) (lit≤ tt)) m m (a .size) (a .ratio)
@@ -173,7 +156,7 @@ module _ (a : Two) where
   unfolding layered texel
   again x y across down t =
       let s = layered-still (gap l 0 x y ≼ 0·0) (gap l' 0 x y ≼ 0·0) (pair l x y) (pair l' x y)
-      (le-trans-float (gap l' 0 x y) (gap l 0 x y) 0·0 (gap-lower 0 x y)) (pair-grown x y (omega arith) (omega arith)) t in
+      (le-trans-float (gap l' 0 x y) (gap l 0 x y) 0·0 (gap-not-larger 0 x y)) (pair-grown x y (omega arith) (omega arith)) t in
       (s .0, ap texelOf (s .1))
 
   -- a texel's gain is large where the stored one is
@@ -208,7 +191,7 @@ module _ (a : Two) where
   later (renderPlane plane output frames motion algo) e e' =
       keeps-run l plane output (renderRule l plane frames motion algo) (renderRule l' plane frames motion algo) _ _
       (promised (renderPlane plane output frames motion algo) l) (layer-passed l plane output _ _ e refl) e e'
-      (λ x y across down. rendered-still _ _ (gap l plane x y) (gap l' plane x y) (gap-lower plane x y))
+      (λ x y across down. rendered-still _ _ (gap l plane x y) (gap l' plane x y) (gap-not-larger plane x y))
       (λ x y across down t p. absurd (false≢true p))
 
   keeps : Keeps l l'

@@ -1,4 +1,5 @@
--- Demand 3, word by word: what a lower evidence figure keeps, "from the sums through fit to the later call's bytes and count".
+-- Demand 3, word by word: what a lower evidence figure keeps, "from the sums through fit to the later call's bytes and
+-- count".
 use mathlib.Core.Path.{_≡_}
 use mathlib.Core.Logic.{_≢_}
 use mathlib.Core.Bool.{Bool, true, false, _||_}
@@ -10,17 +11,18 @@ use Rattle.rules.specs.declared.Gain.{Gain}
 use Rattle.rules.specs.declared.Offset.{Offset}
 use Rattle.rules.specs.Forms.{Plane, Motion, Layer, Frames, Rule, cells, planeSize}
 use Rattle.rules.specs.Float.{_≼_}
-use Rattle.rules.specs.Calls.{FitCall, PeelCall, UnpeelCall, RenderCall}
+use Rattle.rules.specs.Calls.{FitCall}
 use Rattle.rules.specs.Fit.{fitRefusal, fitLeaves}
-use Rattle.rules.specs.Reading.{layerOf, cell, lumaGain, lumaOffset, byte}
+use Rattle.rules.specs.Reading.{asLeft, cell, lumaGain, lumaOffset, byte}
 use Rattle.rules.specs.Peel.{peelRule, peelAnswer, peelLeaves}
 use Rattle.rules.specs.Unpeel.{unpeelRule, unpeelAnswer, unpeelLeaves}
 use Rattle.rules.specs.Render.{renderRule, renderAnswer, renderLeaves}
+use Rattle.calls.specs.Lent.{planeOf, peelCall, unpeelCall, renderCall}
 
 -- ---- the two fits
 
--- "Take any sums .. and fit them twice, strict off, the second evidence figure no higher than the first and all else equal"; what their work slices
--- and outputs hold before is left open, since no fit looks at it
+-- "Take any sums .. and fit them twice, strict off, the second evidence figure no higher than the first and all else
+-- equal"; what their work slices and outputs hold before is left open, since no fit looks at it
 pub record FitTwice (first second : FitCall) : Type 0 where
   pub strict : (first .strict ≡ false) × (second .strict ≡ false)
   pub evidence : (second .evidence ≼ first .evidence) ≡ true
@@ -31,7 +33,7 @@ pub record FitTwice (first second : FitCall) : Type 0 where
 
 -- the "layer as fit left it, read with that layer's own sizes, ratio and pitches"
 abbrev pub layerLeft : FitCall → Layer
-layerLeft c = layerOf (fitLeaves c) (c .size) (c .ratio)
+layerLeft c = asLeft (fitLeaves c) (c .size) (c .ratio)
 
 -- what a layer stores for luma pixel (x, y)
 abbrev pub pair : Layer → (x y : ℕ) → Gain × Offset
@@ -59,18 +61,18 @@ pub record Run : Type 0 where
 -- the call made on a layer
 abbrev pub run : Later → Layer → Run
 run (peelLuma output raw) l =
-    let c : PeelCall = record { layer = l; plane = 0; output = output; raw = raw } in
-    record { rule = peelRule l 0 raw; size = planeSize l 0; answer = peelAnswer c; output = record { bytes = peelLeaves c; pitch = output .pitch } }
+    let c = peelCall l 0 output raw in
+    record { rule = peelRule l 0 raw; size = planeSize l 0; answer = peelAnswer c; output = planeOf (peelLeaves c) (output .pitch) }
 run (unpeelLuma output frames) l =
-    let c : UnpeelCall = record { layer = l; plane = 0; output = output; frames = frames } in
-    record { rule = unpeelRule l 0 frames; size = planeSize l 0; answer = unpeelAnswer c; output = record { bytes = unpeelLeaves c; pitch = output .pitch } }
+    let c = unpeelCall l 0 output frames in
+    record { rule = unpeelRule l 0 frames; size = planeSize l 0; answer = unpeelAnswer c; output = planeOf (unpeelLeaves c) (output .pitch) }
 run (renderPlane plane output frames motion algo) l =
-    let c : RenderCall = record { layer = l; plane = plane; output = output; frames = frames; motion = motion; algo = algo } in
+    let c = renderCall l plane output frames motion algo in
     record {
       rule = renderRule l plane frames motion algo;
       size = planeSize l plane;
       answer = renderAnswer c;
-      output = record { bytes = renderLeaves c; pitch = output .pitch };
+      output = planeOf (renderLeaves c) (output .pitch);
     }
 
 -- no row of its table fits
@@ -87,7 +89,8 @@ pub record Written (r : Run) (x y : ℕ) : Type 0 where
 abbrev pub isLarge : Gain → Bool
 isLarge g = leZ (pos 820) (g .0) || leZ (g .0) (negℤ (pos 820))
 
--- where the call leaves the same byte: "unpeel .. both times, and so does peel where" the gain is large; of render's bytes nothing is said
+-- where the call leaves the same byte: "unpeel .. both times, and so does peel where" the gain is large; of render's
+-- bytes nothing is said
 abbrev pub promised : Later → Layer → (x y : ℕ) → Bool
 promised (peelLuma output raw) l x y = isLarge (lumaGain l x y)
 promised (unpeelLuma output frames) l x y = true
@@ -110,7 +113,8 @@ pub record Keeps (first second : Layer) : Type 0 where
   pub pairs : (x y : ℕ) → x < first .size .0 → y < first .size .1 → pair first x y ≢ noPair → pair second x y ≡ pair first x y
   -- "and no cell's distance is larger in the second"
   pub distances : (x y : ℕ) → x < cells (first .size .0) → y < cells (first .size .1) → leZ (cell second x y) (cell first x y) ≡ true
-  -- "Now make one call .. once on each layer .. over equal other inputs and starting bytes, whatever these are. Where both calls are accepted"
+  -- "Now make one call .. once on each layer .. over equal other inputs and starting bytes, whatever these are. Where
+  -- both calls are accepted"
   pub later : (call : Later) → Accepted (run call first) → Accepted (run call second) → KeepsRun (run call first) (run call second) (promised call first)
 
 -- "Where both fits are accepted", the second layer keeps what the first has

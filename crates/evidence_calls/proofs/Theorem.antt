@@ -1,5 +1,5 @@
 -- Demand 3 of the exported calls, from the theorem of the definitions. Assumes nothing.
-use mathlib.Core.Path.{_≡_, ap}
+use mathlib.Core.Path.{_≡_, sym, ap, subst, subst₂}
 use mathlib.Core.Bool.{Bool, true, _&&_}
 use mathlib.Core.List.{List, [], _∷_}
 use Prim.Native.Nat.{ℕ, _+_, _*_, _/_, _%_, _≤_}
@@ -9,13 +9,16 @@ use lib.Ieee.Fits.{and-l, and-r}
 use Rattle.rules.specs.Forms.{Fit, Layer, answer}
 use Rattle.rules.specs.Calls.{FitCall}
 use Rattle.rules.specs.Refusals.{Table, firstFitting, fitTable, peelRefusal, unpeelRefusal, renderRefusal}
-use Rattle.rules.specs.Fit.{fitRefusal}
-use Rattle.rules.specs.Reading.{layerOf}
+use Rattle.rules.specs.Fit.{fitRefusal, fitLeaves}
+use Rattle.rules.specs.Reading.{asLeft}
 use Rattle.laws.proofs.Lists.{either}
-use Rattle.host.specs.Told.{Told}
+use Rattle.calls.specs.Lent.{planeOf}
+use Rattle.told.specs.Told.{Told}
 use Rattle.evidence.specs.Evidence.{layerLeft, Later, peelLuma, unpeelLuma, renderPlane, run, Keeps}
 use Rattle.evidence.proofs.Theorem.{demand-three}
-use Rattle.evidence_calls.specs.Calls.{FitTold, LaterTold, numberIn, outputOf, KeepsCall, KeepsLeft, DemandThreeCalls}
+use Rattle.evidence_bytes.specs.Written.{throughBytes}
+use Rattle.evidence_bytes.proofs.Back.{left-short}
+use Rattle.evidence_calls.specs.Calls.{FitTold, LaterTold, numberIn, planeLeft, KeepsCall, KeepsLeft, DemandThreeCalls, DemandThreeByteCalls}
 
 -- ---- an answer, taken apart: a refusal's number is at most 8, so it is the answer's low byte
 
@@ -48,10 +51,10 @@ number-few (peelLuma output raw) l = few _ tt
 number-few (unpeelLuma output frames) l = few _ tt
 number-few (renderPlane plane output frames motion algo) l = few _ tt
 
-output-is : (call : Later) (l : Layer) {left : List ℕ} → left ≡ run call l .output .bytes → outputOf call left ≡ run call l .output
-output-is (peelLuma output raw) l e = ap (λ (b : List ℕ). record { bytes = b; pitch = output .pitch }) e
-output-is (unpeelLuma output frames) l e = ap (λ (b : List ℕ). record { bytes = b; pitch = output .pitch }) e
-output-is (renderPlane plane output frames motion algo) l e = ap (λ (b : List ℕ). record { bytes = b; pitch = output .pitch }) e
+output-is : (call : Later) (l : Layer) {left : List ℕ} → left ≡ run call l .output .bytes → planeLeft call left ≡ run call l .output
+output-is (peelLuma output raw) l e = ap (λ (b : List ℕ). planeOf b (output .pitch)) e
+output-is (unpeelLuma output frames) l e = ap (λ (b : List ℕ). planeOf b (output .pitch)) e
+output-is (renderPlane plane output frames motion algo) l e = ap (λ (b : List ℕ). planeOf b (output .pitch)) e
 
 keeps-left : (l l' : Layer) → Keeps l l' → KeepsLeft l l'
 keeps-left l l' k = record { layers = k; later = later }
@@ -79,10 +82,22 @@ refusal-few c = few _ tt
 accepted : (c : FitCall) (left : Fit) (r : ℕ) → FitTold c left r → numberIn r ≡ 0 → fitRefusal c ≡ 0
 accepted c left r t e = low 0 (fitRefusal c) r (refusal-few c) (t .told) e
 
-layer-left : (c : FitCall) (left : Fit) (r : ℕ) → FitTold c left r → layerOf left (c .size) (c .ratio) ≡ layerLeft c
+layer-left : (c : FitCall) (left : Fit) (r : ℕ) → FitTold c left r → asLeft left (c .size) (c .ratio) ≡ layerLeft c
 layer-left c left r t = rw (t .luma-left, t .chroma1-left, t .chroma2-left)
 
 pub demand-three-calls : DemandThreeCalls
 demand-three-calls first second twice left left' r r' t t' e e' =
     rw (layer-left first left r t, layer-left second left' r' t')
     (keeps-left _ _ (demand-three first second twice (accepted first left r t e) (accepted second left' r' t' e')))
+
+-- ---- the fits, with their layers lent as bytes
+
+through : (c : FitCall) (left : Fit) (r : ℕ) → FitTold c left r → numberIn r ≡ 0 → asLeft (throughBytes left) (c .size) (c .ratio) ≡ asLeft left (c .size) (c .ratio)
+through c left r t e =
+    let is : left ≡ fitLeaves c = rw (t .luma-left, t .chroma1-left, t .chroma2-left) in
+    ap (λ (f : Fit). asLeft f (c .size) (c .ratio)) (subst (λ (f : Fit). throughBytes f ≡ f) (sym is) (left-short c (accepted c left r t e)))
+
+pub demand-three-byte-calls : DemandThreeByteCalls
+demand-three-byte-calls first second twice left left' r r' t t' e e' =
+    subst₂ (λ (l l' : Layer). KeepsLeft l l') (sym (through first left r t e)) (sym (through second left' r' t' e'))
+    (demand-three-calls first second twice left left' r r' t t' e e')

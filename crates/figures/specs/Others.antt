@@ -110,12 +110,13 @@ hole =
 abbrev pub spot : (b : ℕ) → Plane
 spot b = record { bytes = b ∷ b ∷ b ∷ b ∷ 100 ∷ replicate 11 b; pitch = 8 }
 
--- "points that coincide after that count again": once-counted points would give 33
+-- points of a ring that coincide once they are held into the plane count again (a decision); counted once they would
+-- give 33
 abbrev pub Filling : Type 0
 Filling =
     peelLeaves (record { layer = hole; plane = 0; output = record { bytes = replicate 16 0; pitch = 8 }; raw = spot 0 }) ≡ 40 ∷ replicate 15 0
 
--- "A filled mean is Lifted": render of luma (1, 0) gives 40
+-- a filled mean is Lifted (a decision): render of luma (1, 0) gives 40
 abbrev pub FilledMean : Type 0
 FilledMean =
     getD (renderLeaves (record {
@@ -179,7 +180,8 @@ renderOne field width height pel =
 abbrev pub RefusedPel : Type 0
 RefusedPel = renderAnswer (renderOne (1024 ∷ []) 1 1 (pos 0)) ≡ refused 5
 
--- lengths come before numbers, and no product wraps: a grid of 2^32 by 2^32 has 2^64 blocks, one of 0 by 5 none; 4097 by 1 has the right length and a wrong side
+-- lengths come before numbers, and no product wraps: a grid of 2^32 by 2^32 has 2^64 blocks, one of 0 by 5 none;
+-- 4097 by 1 has the right length and a wrong side
 abbrev pub RefusedGrids : Type 0
 RefusedGrids =
     (renderAnswer (renderOne [] 4294967296 4294967296 (pos 1)) ≡ refused 4)
@@ -214,7 +216,7 @@ RefusedPairs =
       output = record { luma = replicate 2 (pos 0); chroma = (replicate 2 (pos 0), replicate 2 (pos 0)) };
     }) ≡ 7
 
--- "ratio 2, four offsets of 4096.0"; "four of 512.0 make 32768, refused; four of -512.0 make -32768, accepted"
+-- "ratio 2, four offsets of 4096.0"; four of 512.0 make 32768, which is refused, four of -512.0 -32768, which is not
 abbrev pub allFour : Float → AssembleCall
 allFour a = fourOffsets a a a a
 

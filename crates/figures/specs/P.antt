@@ -1,4 +1,5 @@
--- "Figures to hold the work against": P1 to P14 of the rules, one theorem. proofs/Figures.antt closes it by computation.
+-- "Figures to hold the work against": P1 to P14 of the rules, one theorem. proofs/Figures.antt closes it by
+-- computation.
 use mathlib.Core.Path.{_≡_}
 use mathlib.Core.List.{[], _∷_}
 use Prim.Native.Nat.{ℕ}

@@ -1,9 +1,10 @@
--- The whole part of a float above 0 and below 2 ^ 23, by adding 2 ^ 23 and taking it off: that leaves a whole number next to x, which is the whole part or one more. Assumes nothing.
+-- The whole part of a float without a sign and below 2 ^ 23, by adding 2 ^ 23 and taking it off: that leaves a whole
+-- number next to x, which is the whole part or one more. Assumes nothing.
 use mathlib.Core.Path.{_≡_, refl, sym, ap, _∙_, subst}
 use Prim.Native.Nat.{ℕ, suc, _+_, _-_, _*_, _/_, _%_, _^_, _≤_, _<_, compare}
 use native.Mathlib.Nat.{le-trans, le-of-eq, lt-of-lt-of-le, lt-of-le-of-lt, not-le-of-lt, lt-of-not-le, mul-comm, mul-assoc, mul-one, mul-pos, mul-right-comm, mul-le-mul-right, mul-lt-mul-of-pos-right, div-lt-iff-lt-mul, le-div-iff-mul-le, eq-of-mul-eq-mul-right, add-mul-div-right, zero-lt-suc, div-mul-le-self}
 use native.Mathlib.Omega.{arith}
-use mathlib.Core.Bool.{Bool, true, false, not, cond}
+use mathlib.Core.Bool.{Bool, true, false, not, cond, true≢false}
 use lib.IntN.{ℤ, pos, negsuc}
 use lib.Dec.{T, ltb, ltb→lt, le→leb, lit<, lit≤}
 use lib.Pow.{pow-pos, pow-mono}
@@ -14,6 +15,7 @@ use lib.Ieee.Exact.{HasValue, units-val}
 use lib.Ieee.Nearest.{closest, closest-same, nearest-ge}
 use lib.Ieee.Back.{unsigned-back}
 use lib.Arith.{le→nltb}
+use Rattle.rules.specs.Float.{negative}
 use Rattle.laws.proofs.Value.{cut-of-value, T-of, not-of}
 use Rattle.laws.proofs.Order.{not-lt-of-le, le-of-not-lt}
 use Rattle.laws.proofs.Whole.{le-by-values, values-by-le, int-value, add-at, sum-int}
@@ -131,12 +133,12 @@ floored-at m e U =
     below : (fl q : ℕ) → fl + 2 ^ 23 ≤ q → q ≤ suc (fl + 2 ^ 23) → q - 2 ^ 23 ≤ fl → q - 2 ^ 23 ≡ fl
     below fl q h k l = omega arith
 
-pub floored : (x : Float) → T (lt (fin false 0 (pos 0)) x) → T (lt x big) → Floored x (there-and-back x)
-unfolding lt
-floored nan a b = absurd a
-floored (inf true) a b = absurd a
+pub floored : (x : Float) → negative x ≡ false → T (lt x big) → Floored x (there-and-back x)
+unfolding lt negative
+floored nan a b = absurd b
+floored (inf true) a b = absurd (true≢false a)
 floored (inf false) a b = absurd b
-floored (fin true m e) a b = absurd a
+floored (fin true m e) a b = absurd (true≢false a)
 floored (fin false m e) a b = floored-at m e (small (m * up e) (down e) (ltb→lt (m * up e * 1) (1 * 2 ^ 23 * down e) b))
   where
     small : (A D : ℕ) → A * 1 < 1 * 2 ^ 23 * D → A < 2 ^ 23 * D
@@ -148,3 +150,12 @@ unfolding inFloat
 number x w F =
     let b = unsigned-back binary32 32 (F .r) (le→leb (F .r) (2 ^ 24) (F .small)) (lt-of-le-of-lt (F .small) (lit< tt)) in
     (subst (λ (y : Float). T (inUnsigned binary32 32 y)) (sym (F .is)) (b .0), ap (λ (y : Float). toUnsigned 32 y) (F .is) ∙ b .1)
+
+-- the number that is left, less one where it is too large
+pub taken : (x w : Float) (F : Floored x w) → (cond (lt x w) 1 0 ≤ toUnsigned 32 w) × (toUnsigned 32 w - cond (lt x w) 1 0 ≡ toUnsigned 64 x)
+taken x w F = go (lt x w) (F .more) (F .same)
+  where
+    go : (b : Bool) → (b ≡ true → F .r ≡ suc (toUnsigned 64 x)) → (b ≡ false → F .r ≡ toUnsigned 64 x)
+        → (cond b 1 0 ≤ toUnsigned 32 w) × (toUnsigned 32 w - cond b 1 0 ≡ toUnsigned 64 x)
+    go true f g = let n = number x w F .1 in let m = f refl in (omega arith, omega arith)
+    go false f g = let n = number x w F .1 in let m = g refl in (omega arith, omega arith)

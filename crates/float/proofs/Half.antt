@@ -1,18 +1,20 @@
--- Twice an `f32` that is not near the largest is exact. So is half of it, rounded away from zero, found by cutting. Assumes nothing.
-use mathlib.Core.Path.{_≡_, sym, ap, _∙_, subst}
+-- Twice an `f32` that is not near the largest is exact. So is half of it, rounded away from zero, found by cutting.
+-- Assumes nothing.
+use mathlib.Core.Path.{_≡_, refl, sym, ap, _∙_, subst}
 use Prim.Native.Nat.{ℕ, zero, suc, _+_, _-_, _*_, _/_, _%_, _^_, _≤_, _<_}
-use native.Mathlib.Nat.{le-trans, le-of-eq, lt-irrefl, not-le-of-lt, lt-of-mul-lt-mul-right, mul-lt-mul-of-pos-right, mul-comm, mul-assoc, mul-left-comm, mul-pos, add-div-right, div-div-eq-div-mul, div-lt-iff-lt-mul, mul-one, zero-lt-suc, mul-right-comm, mul-le-mul-right, lt-of-lt-of-le, zero-mul}
+use native.Mathlib.Nat.{le-trans, le-of-eq, lt-irrefl, not-le-of-lt, lt-of-mul-lt-mul-right, mul-lt-mul-of-pos-right, mul-comm, mul-assoc, mul-left-comm, mul-pos, add-div-right, div-div-eq-div-mul, div-lt-iff-lt-mul, mul-one, mul-right-comm, mul-le-mul-right, lt-of-lt-of-le, zero-mul}
 use native.Mathlib.Omega.{arith}
 use mathlib.Core.Bool.{true, false, _&&_}
 use lib.IntN.{ℤ, pos, negsuc}
 use lib.Dec.{T, ltb, leb, eqb, ltb→lt, leb→le, lit≤}
 use lib.Pow.{pow-add, pow-pos, pow-lt}
 use lib.Ieee.{Float, nan, inf, fin, binary32, up, down, sum, add, lt, fits, toUnsigned}
-use lib.Ieee.Fits.{and-l, and-r, down-pos, up-pos}
+use lib.Ieee.Fits.{and-l, and-r, down-pos}
 use lib.Ieee.Exact.{HasValue, round-exact}
 use lib.Ieee.Scale.{round-same}
+use Rattle.rules.specs.Float.{negative}
 use Rattle.float.specs.Nearest.{sizeOf}
-use Rattle.laws.proofs.Value.{lt-of-value, above-zero, cut-of-value}
+use Rattle.laws.proofs.Value.{by-value, lt-of-value, cut-of-value}
 
 le-of-not : {a b : ℕ} → (b < a → ⊥) → a ≤ b
 le-of-not {a} {b} f = omega arith
@@ -56,20 +58,20 @@ away A d D = ap (λ (z : ℕ). z / 2) (sym (add-div-right (2 * A) D)) ∙ div-di
 
 -- what the code of `nearest` does with an x above 0 and below 2 ^ 16
 pub record Halved (x y : Float) : Type 0 where
-  pub above : T (lt (fin false 0 (pos 0)) y)
+  pub sign : negative y ≡ false
   pub under : T (lt y (fin false 1 (pos 23)))
   pub small : toUnsigned 64 y < 2 ^ 17
   pub is : (toUnsigned 64 y + 1) / 2 ≡ sizeOf x
 
-of-value : (m : ℕ) (e : ℤ) (y : Float) → 0 < m → m * up e < 2 ^ 16 * down e → HasValue y false (2 * (m * up e)) (down e) → Halved (fin false m e) y
-unfolding sizeOf
-of-value m e y M L v =
+of-value : (m : ℕ) (e : ℤ) (y : Float) → m * up e < 2 ^ 16 * down e → HasValue y false (2 * (m * up e)) (down e) → Halved (fin false m e) y
+unfolding sizeOf negative
+of-value m e y L v =
     let A = m * up e in
     let d = down e in
     let q : 2 * A / d < 2 ^ 17 = div-lt-iff-lt-mul (down-pos e) .1 (more A d L) in
     let c : toUnsigned 64 y ≡ 2 * A / d = cut-of-value 64 y (2 * A) d (down-pos e) v (lt-of-lt-of-le q (lit≤ tt)) in
     record {
-      above = above-zero y (2 * A) d (mul-pos (zero-lt-suc 1) (mul-pos M (up-pos e))) v;
+      sign = by-value (λ y. negative y ≡ false) y false (2 * A) d v (λ _ _ _. refl);
       under = lt-of-value y (2 * A) d 1 (pos 23) (down-pos e) v (most A d L);
       small = subst (λ (z : ℕ). z < 2 ^ 17) (sym c) q;
       is = ap (λ (z : ℕ). (z + 1) / 2) c ∙ away A d (down-pos e);
@@ -96,7 +98,7 @@ halved (fin false (suc m) e) F a b =
     let four = ltb (n * up e) (2 ^ 128 * down e) in
     let F3 : T (one && two && three) = and-l (one && two && three) four F in
     let L : n * up e < 2 ^ 16 * down e = subst (λ (z : ℕ). z < 2 ^ 16 * down e) (mul-one (n * up e)) (ltb→lt (n * up e * 1) (1 * 2 ^ 16 * down e) b) in
-    of-value n e (add binary32 (fin false n e) (fin false n e)) (zero-lt-suc m) L
+    of-value n e (add binary32 (fin false n e) (fin false n e)) L
     (twice-value n e (ltb→lt n (2 ^ 24) (and-r one two (and-l (one && two) three F3))) (leb→le (down e) (2 ^ 149) (and-r (one && two) three F3)) (wide (n * up e) (down e) L))
   where
     wide : (A d : ℕ) → A < 2 ^ 16 * d → A < 2 ^ 64 * d

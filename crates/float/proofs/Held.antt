@@ -1,4 +1,5 @@
--- `sizeTo` by tests of the float: in range it is the rounded size, past the end it is the end, and at 0 and below it is of no account. Assumes nothing.
+-- `sizeTo` by tests of the float: in range it is the rounded size, past the end it is the end, and at 0 and below it is
+-- of no account. Assumes nothing.
 use mathlib.Core.Path.{_≡_, refl, sym, ap, _∙_, subst}
 use Prim.Native.Nat.{ℕ, _+_, _*_, _/_, _≤_, _<_, min}
 use native.Mathlib.Nat.{le-trans, le-of-eq, le-of-suc-le-suc, mul-left-comm, mul-one, suc-mul, add-comm, div-lt-iff-lt-mul, le-div-iff-mul-le, mul-pos, zero-lt-suc}

@@ -36,7 +36,7 @@ cut-nan nan t = refl
 cut-nan (inf s) t = absurd t
 cut-nan (fin s m e) t = absurd t
 
-cut-nought : toUnsigned 64 (lit 0) ≡ 0
+pub cut-nought : toUnsigned 64 (lit 0) ≡ 0
 unfolding ofBits toUnsigned
 cut-nought = refl
 

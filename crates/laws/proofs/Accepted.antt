@@ -104,14 +104,14 @@ ratio-in size ratio sides e =
     }
 
 -- three exact lengths
-pub exact-in : {A : Type 0} (many : ℕ) (luma : List A) (chroma : List A × List A) (size : ℕ × ℕ) (ratio : ℕ) → areExact many luma chroma size ratio ≡ true
-    → (length luma ≡ many * (size .0 * size .1)) × (length (chroma .0) ≡ 2 * (size .0 / ratio * (size .1 / ratio))) × (length (chroma .1) ≡ 2 * (size .0 / ratio * (size .1 / ratio)))
-exact-in many luma chroma size ratio e =
-    let all = many * (size .0 * size .1) in
-    let half = 2 * (size .0 / ratio * (size .1 / ratio)) in
-    let t = both (eqb (length luma) all && eqb (length (chroma .0)) half) (eqb (length (chroma .1)) half) e in
-    let u = both (eqb (length luma) all) (eqb (length (chroma .0)) half) (t .0) in
-    (eqb-true (length luma) all (u .0), eqb-true (length (chroma .0)) half (u .1), eqb-true (length (chroma .1)) half (t .1))
+pub exact-in : {A : Type 0} (luma : List A) (chroma : List A × List A) (lengths : ℕ × ℕ) → areExact luma chroma lengths ≡ true
+    → (length luma ≡ lengths .0) × (length (chroma .0) ≡ lengths .1) × (length (chroma .1) ≡ lengths .1)
+exact-in luma chroma lengths e =
+    let first = eqb (length luma) (lengths .0) in
+    let second = eqb (length (chroma .0)) (lengths .1) in
+    let t = both (first && second) (eqb (length (chroma .1)) (lengths .1)) e in
+    let u = both first second (t .0) in
+    (eqb-true _ _ (u .0), eqb-true _ _ (u .1), eqb-true _ _ (t .1))
 
 -- ---- layers
 

@@ -1,8 +1,8 @@
--- Laws of `tabulate`, `turns`, `any`, `howMany` and of the transform's `least`. Assumes nothing.
+-- Laws of `tabulate`, `turns`, `any` and `howMany`. Assumes nothing.
 use mathlib.Core.Path.{_≡_, refl, sym, ap, _∙_}
 use mathlib.Core.Bool.{Bool, true, false, not, cond, _||_}
 use mathlib.Core.List.{List}
-use Prim.Native.Nat.{ℕ, zero, suc, _+_, _*_, _≤_, _<_, min}
+use Prim.Native.Nat.{ℕ, zero, suc, _+_, _*_, _≤_, _<_}
 use native.Mathlib.Nat.{add-mul, mul-comm}
 use native.Mathlib.Omega.{arith}
 use lib.Dec.{T, ltb, nltb→le, ltb→lt}
@@ -10,7 +10,6 @@ use lib.ListN.{length, getD, List·getD-eq-default}
 use lib.Seq.{ext-getD}
 use lib.Arith.{digits-lt}
 use Rattle.rules.specs.Forms.{turns, tabulate, any, howMany}
-use Rattle.rules.specs.Distances.{least, whole, nearestTo, distances}
 
 -- one of two that are at most n
 pub either : (t : Bool) (a b n : ℕ) → a ≤ n → b ≤ n → cond t a b ≤ n
@@ -95,47 +94,3 @@ one-mono false false m n f h = h
 pub howMany-mono : (n : ℕ) (p q : ℕ → Bool) → ((k : ℕ) → T (p k) → T (q k)) → howMany n p ≤ howMany n q
 unfolding howMany
 howMany-mono n p q h = turns-both (λ a b. a ≤ b) _ _ n (λ k below a b. one-mono (p k) (q k) a b (h k)) 0 0 (omega arith)
-
--- ---- the transform
-
-min-mono : (a b c d : ℕ) → a ≤ b → c ≤ d → min a c ≤ min b d
-min-mono a b c d h k = omega arith
-
-pub least-mono : (f g : ℕ → ℕ) (n : ℕ) → ((k : ℕ) → f k ≤ g k) → least f n ≤ least g n
-unfolding least
-least-mono f g zero h = omega arith
-least-mono f g (suc n) h = min-mono (least f n) (least g n) (f n) (g n) (least-mono f g n h) (h n)
-
-pub least-small : (f : ℕ → ℕ) (n : ℕ) → least f n ≤ 255
-unfolding least
-least-small f zero = omega arith
-least-small f (suc n) = under (least f n) (f n) (least-small f n)
-  where
-    under : (a b : ℕ) → a ≤ 255 → min a b ≤ 255
-    under a b h = omega arith
-
--- the cells grow with the old ones
-pub distances-mono : (old old' : List ℕ) (width : ℕ) → length old ≡ length old' → ((k : ℕ) → getD old k 0 ≤ getD old' k 0)
-    → (k : ℕ) → getD (distances old width) k 0 ≤ getD (distances old' width) k 0
-unfolding distances nearestTo
-distances-mono old old' width same h k =
-    rw same
-    (tabulate-both (λ a b. a ≤ b) (length old') _ _ 0 0 k
-    (λ below. pick (ltb k (whole old' width)) _ _ _ _
-    (least-mono _ _ (whole old' width) (λ i. more _ _ _ (h i))) (h k))
-    (omega arith))
-  where
-    more : (a b c : ℕ) → a ≤ b → a + c ≤ b + c
-    more a b c l = omega arith
-
-    pick : (t : Bool) (a b a' b' : ℕ) → a ≤ a' → b ≤ b' → cond t a b ≤ cond t a' b'
-    pick true a b a' b' l m = l
-    pick false a b a' b' l m = m
-
--- and stay small
-pub distances-small : (old : List ℕ) (width : ℕ) → ((k : ℕ) → getD old k 0 ≤ 255) → (k : ℕ) → getD (distances old width) k 0 ≤ 255
-unfolding distances nearestTo
-distances-small old width h k =
-    tabulate-both {B = ℕ} (λ a b. a ≤ 255) (length old) _ (λ j. 0) 0 0 k
-    (λ below. either (ltb k (whole old width)) _ _ 255 (least-small _ (whole old width)) (h k))
-    (omega arith)

@@ -1,4 +1,5 @@
--- The order of floats, NaN and the infinities included: `le` is transitive, and so are its mixes with `lt`. Assumes nothing.
+-- The order of floats, NaN and the infinities included: `le` is transitive, and so are its mixes with `lt`. Assumes
+-- nothing.
 use mathlib.Core.Path.{_≡_, sym, ap, _∙_, subst}
 use mathlib.Core.Logic.{_⊎_, inl, inr}
 use Prim.Native.Nat.{ℕ, _+_, _*_, _≤_, _<_}

@@ -15,7 +15,7 @@ use lib.Ieee.Scale.{round-same}
 use lib.Ieee.Order.{round-mono}
 use lib.Ieee.Back.{unsigned-back}
 use Rattle.rules.specs.Literals.{0·0, 0·2, 4096·0}
-use Rattle.rules.specs.Float.{_⊖_, _⊘_, _≼_, float, signed, cut, abs, _⊗_, rounded, negative, stored, storedOf}
+use Rattle.rules.specs.Float.{_⊖_, _⊘_, _≼_, float, signed, cut, abs, _⊗_, rounded, negative, stored, roundedShort}
 use Rattle.rules.specs.Forms.{Layer}
 use Rattle.rules.specs.Model.{plain, set}
 use Rattle.rules.specs.Reading.{fraction, texel, modelAt}
@@ -45,12 +45,12 @@ none-left n h =
     let z : n - n ≡ 0 = omega arith in
     add-at binary32 (float n) (neg (float n)) false n true n v (value-neg (float n) false n 1 v) ∙ simp (le-ltb n n (omega arith), z)
 
-zero-is : eq (round binary32 false 0 1) 0·0 ≡ true
+zero-eq : eq (round binary32 false 0 1) 0·0 ≡ true
 unfolding round eq ofBits
-zero-is = refl
+zero-eq = refl
 
 pub fraction-float : (n : ℕ) → n ≤ 4096 → eq (fraction (float n)) 0·0 ≡ true
-fraction-float n h = rw (cut-float n h, none-left n h) zero-is
+fraction-float n h = rw (cut-float n h, none-left n h) zero-eq
 
 -- at a pixel the model is its texel
 pub model-whole : (l : Layer) (plane x y : ℕ) → x ≤ 4096 → y ≤ 4096 → modelAt l plane (float x) (float y) ≡ texel l plane x y
@@ -110,7 +110,7 @@ fifth g small large =
 
 -- a stored number is "held to ±32767"
 pub stored-small : (v s : Float) → natAbs (stored v s) ≤ 32767
-unfolding stored storedOf rounded
+unfolding stored roundedShort rounded
 stored-small v s = go (negative (v ⊗ s)) (rounded 32767 (v ⊗ s)) (rounded-small (v ⊗ s))
   where
     rounded-small : (y : Float) → rounded 32767 y ≤ 32767

@@ -1,4 +1,5 @@
--- What `painted` comes to byte by byte, and `counted` where a rule writes no less, for any rule. Assumes nothing.
+-- What `painted` comes to byte by byte, and `counted` where a rule writes no less or the same, for any rule. Assumes
+-- nothing.
 use mathlib.Core.Path.{_≡_, refl, sym, ap, _∙_}
 use mathlib.Core.Logic.{⊎-elim}
 use mathlib.Core.Bool.{Bool, true, false, cond}
@@ -121,3 +122,9 @@ counted-mono rule rule' size more =
     turns-both (λ a b. a ≤ b) _ _ (size .1)
     (λ y down. turns-both (λ a b. a ≤ b) _ _ (size .0) (λ x across a b. one-mono (rule .writes x y) (rule' .writes x y) a b (more x y across down)))
     0 0 (omega arith)
+
+-- a rule that writes the same pixels counts the same, whatever it writes there
+pub counted-same : (rule rule' : Rule) (size : ℕ × ℕ) → ((x y : ℕ) → rule .writes x y ≡ rule' .writes x y) → counted rule size ≡ counted rule' size
+unfolding counted scan scanRow tally
+counted-same rule rule' size same =
+    turns-both _≡_ _ _ (size .1) (λ y down. turns-both _≡_ _ _ (size .0) (λ x across a b e. rw (e, same x y))) 0 0 refl

@@ -1,4 +1,5 @@
--- Whole numbers up to 2 ^ prec as floats: their order is the numbers', and a sum and a product of them is the float of the sum and of the product. Assumes nothing.
+-- Whole numbers up to 2 ^ prec as floats: their order is the numbers', and a sum and a product of them is the float of
+-- the sum and of the product. Assumes nothing.
 use mathlib.Core.Path.{_≡_, refl, sym, ap, _∙_, subst}
 use Prim.Native.Nat.{ℕ, zero, suc, _+_, _-_, _*_, _/_, _^_, _≤_, _<_, min}
 use native.Mathlib.Nat.{le-trans, le-of-eq, mul-comm, mul-assoc, mul-one, mul-pos, mul-mul-mul-comm, mul-lt-mul-of-pos-right, lt-of-mul-lt-mul-right, add-mul, zero-lt-suc, mul-le-mul-right, div-le-of-le-mul, lt-irrefl, mul-sub}
@@ -15,7 +16,7 @@ use lib.Ieee.Scale.{round-same}
 use lib.Ieee.Order.{transfer}
 use lib.Ieee.Back.{round-whole}
 use Rattle.rules.specs.Literals.{0·0, 8·0}
-use Rattle.rules.specs.Float.{_⊖_, _⊗_, signed}
+use Rattle.rules.specs.Float.{_⊖_, _⊗_, float, signed}
 use Rattle.laws.proofs.Signed.{neg-size}
 use Rattle.laws.proofs.Value.{by-value}
 use Rattle.laws.proofs.Order.{Below, opened, shut, none, zero-of}
@@ -41,6 +42,10 @@ values-by-le x y s a c t b c' p q C C' =
     (opened s (m * up e) (down e) t (n * up d) (down d) (down-pos e) (down-pos d) h)))
 
 -- ---- whole numbers
+pub zero-is : float 0 ≡ 0·0
+unfolding ofBits ofInt
+zero-is = refl
+
 abbrev pub minus? : ℤ → Bool
 minus? (pos n) = false
 minus? (negsuc n) = true

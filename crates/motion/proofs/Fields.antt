@@ -1,5 +1,5 @@
--- A motion number is read back from its bits; a number stands within its field; a pixel row's number times the ratio is small; what is carried gives the definition's steps.
--- Assumes nothing.
+-- A motion number is read back from its bits; a number stands within its field; a pixel row's number times the ratio is
+-- small; what is carried gives the definition's steps. Assumes nothing.
 use mathlib.Core.Path.{_≡_, refl, ap, _∙_}
 use Prim.Native.Nat.{ℕ, _+_, _*_, _^_, _≤_, _<_}
 use native.Mathlib.Nat.{mul-le-mul, le-trans}
@@ -18,6 +18,7 @@ use lib.Ieee.{Float}
 use Rattle.rules.specs.Reading.{after, heldTo}
 use Rattle.rules.specs.Motion.{taps, rowTaps, columnTaps, step, steps}
 use Rattle.sample.specs.Points.{around}
+use Rattle.plane.specs.Slices.{Slices}
 use Rattle.motion.specs.declared.Carried.{Carried}
 use Rattle.motion.specs.declared.Grid.{Grid}
 use Rattle.motion.specs.Moves.{motionOf, laidOut, placeOf, Covers, columnsOf, stepsBy, Holds, Carries, mixedSteps}
@@ -33,13 +34,13 @@ pub scaled : (y ratio : ℕ) → y ≤ 4096 → ratio ≤ 4 → y * ratio ≤ 2 
 scaled y ratio h k = le-trans (mul-le-mul h k) (lit≤ tt)
 
 -- the entries around a pixel are the same whatever the fields hold
-pub same-columns : (fx fy bx by : List ℕ) (g : Grid) (ratio x : ℕ) → columnTaps (laidOut g) ratio x ≡ columnTaps (motionOf fx fy bx by g) ratio x
+pub same-columns : (fields : Slices ℕ) (g : Grid) (ratio x : ℕ) → columnTaps (laidOut g) ratio x ≡ columnTaps (motionOf fields g) ratio x
 unfolding columnTaps
-same-columns fx fy bx by g ratio x = refl
+same-columns fields g ratio x = refl
 
-pub same-rows : (fx fy bx by : List ℕ) (g : Grid) (ratio y : ℕ) → rowTaps (laidOut g) ratio y ≡ rowTaps (motionOf fx fy bx by g) ratio y
+pub same-rows : (fields : Slices ℕ) (g : Grid) (ratio y : ℕ) → rowTaps (laidOut g) ratio y ≡ rowTaps (motionOf fields g) ratio y
 unfolding rowTaps
-same-rows fx fy bx by g ratio y = refl
+same-rows fields g ratio y = refl
 
 -- what is carried to a place is carried to the same place by another name
 pub to : {m : Motion} {ratio : ℕ} {down across there : Taps} {c : Carried} → across ≡ there → Carries m ratio down across c → Carries m ratio down there c
@@ -70,7 +71,7 @@ pub carried-steps : (m : Motion) (ratio x y : ℕ) (c : Carried)
 carried-steps m ratio x y c h = carried-by m ratio (rowTaps m ratio y) x c h ∙ by-rows m ratio x y
 
 -- a place in the grid and the entries around it
-pub around-place : (fx fy bx by : List ℕ) (g : Grid) (ratio x : ℕ) (p : Float) (t : Taps) → p ≡ heldTo (placeOf (laidOut g) ratio x) (g .width)
-    → t ≡ around p (g .width) → t ≡ columnTaps (motionOf fx fy bx by g) ratio x
+pub around-place : (fields : Slices ℕ) (g : Grid) (ratio x : ℕ) (p : Float) (t : Taps) → p ≡ heldTo (placeOf (laidOut g) ratio x) (g .width)
+    → t ≡ around p (g .width) → t ≡ columnTaps (motionOf fields g) ratio x
 unfolding columnTaps taps
-around-place fx fy bx by g ratio x p t e is = rw (is, e)
+around-place fields g ratio x p t e is = rw (is, e)

@@ -1,10 +1,11 @@
 -- What the readers of motion ask and give.
 use mathlib.Core.Path.{_≡_}
-use mathlib.Core.List.{List, []}
+use mathlib.Core.List.{List, [], _∷_}
 use Prim.Native.Nat.{ℕ, _+_, _*_, _≤_, _<_}
 use lib.IntN.{ℤ, natAbs}
 use lib.ListN.{length, getD}
 use lib.Ieee.{Float}
+use denote.Ref.{RefT}
 use Rattle.rules.specs.declared.Taps.{Taps}
 use Rattle.rules.specs.declared.Steps.{Steps}
 use Rattle.rules.specs.Forms.{Motion, area}
@@ -12,30 +13,23 @@ use Rattle.rules.specs.Literals.{0·5, 1024·0}
 use Rattle.rules.specs.Float.{_⊖_, _⊗_, _⊘_, float, signed, mix}
 use Rattle.rules.specs.Reading.{after}
 use Rattle.rules.specs.Motion.{columnTaps, column, step}
+use Rattle.calls.specs.Lent.{motionBy}
+use Rattle.plane.specs.Slices.{Slices, slice}
 use Rattle.motion.specs.declared.Carried.{Carried}
 use Rattle.motion.specs.declared.Grid.{Grid}
 
--- motion as a function is lent it
-abbrev pub motionOf : (forwardX forwardY backwardX backwardY : List ℕ) → Grid → Motion
-motionOf fx fy bx by g =
-    record {
-      forward = (fx, fy);
-      backward = (bx, by);
-      grid = (g .width, g .height);
-      block = (g .«block_width», g .«block_height»);
-      origin = (g .«origin_x», g .«origin_y»);
-      pel = g .pel;
-    }
+-- four fields as one array
+abbrev pub fieldsOf : (forwardX forwardY backwardX backwardY : RefT (List ℕ)) → Slices ℕ
+fieldsOf forwardX forwardY backwardX backwardY = forwardX ∷ forwardY ∷ backwardX ∷ backwardY ∷ []
 
--- and as a call is, number by number
-abbrev pub motionBy : (forwardX forwardY backwardX backwardY : List ℕ) → (gridWidth gridHeight : ℕ)
-    → (blockWidth blockHeight originX originY pel : ℤ) → Motion
-motionBy fx fy bx by gw gh bw bh ox oy pel =
-    record { forward = (fx, fy); backward = (bx, by); grid = (gw, gh); block = (bw, bh); origin = (ox, oy); pel = pel }
+-- motion as a function is lent it
+abbrev pub motionOf : (fields : Slices ℕ) → Grid → Motion
+motionOf fields g =
+    motionBy (slice fields 0) (slice fields 1) (slice fields 2) (slice fields 3) (g .width) (g .height) (g .«block_width») (g .«block_height») (g .«origin_x») (g .«origin_y») (g .pel)
 
 -- the same grid, whatever its fields are
 abbrev pub laidOut : Grid → Motion
-laidOut g = motionOf [] [] [] [] g
+laidOut g = motionOf [] g
 
 -- a pixel column's place in the grid, before it is held to the entries' middles
 abbrev pub placeOf : Motion → (ratio x : ℕ) → Float
@@ -55,10 +49,10 @@ pub record Laid (g : Grid) (ratio : ℕ) : Type 0 where
   pub few : ratio ≤ 4
 
 -- and fields as large as the grid
-pub record Moves (forwardX forwardY backwardX backwardY : List ℕ) (g : Grid) (ratio : ℕ) : Type 0 where
+pub record Moves (fields : Slices ℕ) (g : Grid) (ratio : ℕ) : Type 0 where
   pub laid : Laid g ratio
-  pub forward : Covers (g .width, g .height) forwardX × Covers (g .width, g .height) forwardY
-  pub backward : Covers (g .width, g .height) backwardX × Covers (g .width, g .height) backwardY
+  pub forward : Covers (g .width, g .height) (slice fields 0) × Covers (g .width, g .height) (slice fields 1)
+  pub backward : Covers (g .width, g .height) (slice fields 2) × Covers (g .width, g .height) (slice fields 3)
 
 -- two rows of a grid
 pub record Rows (height : ℕ) (down : Taps) : Type 0 where

@@ -8,7 +8,7 @@ ghost use Rattle.rules.specs.Literals.{1·0};
 ghost use Rattle.rules.specs.Float.{signed, float, _⊗_, _⊘_};
 ghost use Rattle.rules.specs.Motion.{taps as tapsOf, rowTaps, columnTaps};
 ghost use Rattle.sample.specs.Points.{Held, Within};
-ghost use Rattle.motion.specs.Moves.{motionOf, laidOut, placeOf, Covers, Laid, Moves, Rows, entryOf, columnAt, columnsOf, Holds, Carries, mixedSteps};
+ghost use Rattle.motion.specs.Moves.{fieldsOf, motionOf, laidOut, placeOf, Covers, Laid, Moves, Rows, entryOf, columnAt, columnsOf, Holds, Carries, mixedSteps};
 
 // What a motion's fields are laid out by: a grid of blocks, its origin, and steps in pel parts of a
 // pixel.
@@ -32,11 +32,11 @@ pub struct Carried {
 }
 
 // A motion number as a float.
-pub fn of_int(n: i32) -> f32
-    requires { ⌜ natAbs n ≤ 4096 ⌝ }
-    ensures { λ r. ⌜ r ≡ signed n ⌝ }
+pub fn of_int(number: i32) -> f32
+    requires { ⌜ natAbs number ≤ 4096 ⌝ }
+    ensures { λ r. ⌜ r ≡ signed number ⌝ }
 {
-    n as f32
+    number as f32
 }
 
 // The two entries of a side around a place, which is held to the entries' middles.
@@ -44,8 +44,8 @@ pub fn taps(place: f32, size: usize) -> Taps
     requires { ⌜ (1 ≤ size) × (size ≤ 4096) ⌝ }
     ensures { λ r. ⌜ Within (tapsOf place size) size r ⌝ }
 {
-    let p = sample::held(place - 0.5, size);
-    sample::between(p, size)
+    let point = sample::held(place - 0.5, size);
+    sample::between(point, size)
 }
 
 // The two rows of the grid around a pixel row.
@@ -62,7 +62,7 @@ pub fn column_place(grid: Grid, ratio: usize, x: usize) -> f32
     requires { ⌜ Laid grid ratio × (x ≤ 4096) ⌝ }
     ensures { λ r. ⌜ Held (placeOf (laidOut grid) ratio x) (grid .width) r ⌝ }
 {
-    let at = float::of_count(x) * float::of_size(ratio) - of_int(grid.origin_x);
+    let at = float::of_size(x) * float::of_size(ratio) - of_int(grid.origin_x);
     sample::held(at / of_int(grid.block_width) - 0.5, grid.width)
 }
 
@@ -102,7 +102,7 @@ fn column(field: &[u16], width: usize, height: usize, scale: f32, down: Taps, x:
 }
 
 // The column of each field: the first frame takes the backward ones.
-pub fn columns(
+fn columns(
     forward_x: &[u16],
     forward_y: &[u16],
     backward_x: &[u16],
@@ -112,8 +112,8 @@ pub fn columns(
     down: Taps,
     x: usize,
 ) -> Steps
-    requires { ⌜ Moves (now «forward_x») (now «forward_y») (now «backward_x») (now «backward_y») grid ratio × Rows (grid .height) down × (x < (grid .width)) ⌝ }
-    ensures { λ r. ⌜ r ≡ columnsOf (motionOf (now («forward_x» .entry)) (now («forward_y» .entry)) (now («backward_x» .entry)) (now («backward_y» .entry)) grid) ratio down x ⌝ }
+    requires { ⌜ Moves (fieldsOf «forward_x» «forward_y» «backward_x» «backward_y») grid ratio × Rows (grid .height) down × (x < (grid .width)) ⌝ }
+    ensures { λ r. ⌜ r ≡ columnsOf (motionOf (fieldsOf («forward_x» .entry) («forward_y» .entry) («backward_x» .entry) («backward_y» .entry)) grid) ratio down x ⌝ }
 {
     let scale = scale(ratio, grid.pel);
     Steps {
@@ -124,8 +124,9 @@ pub fn columns(
     }
 }
 
-// The columns around a pixel, read anew.
-pub fn around(
+// The columns around a pixel, read anew. The fields come singly: so it is small enough to be compiled into each row's loop,
+// and what is carried stays in registers.
+fn read(
     forward_x: &[u16],
     forward_y: &[u16],
     backward_x: &[u16],
@@ -135,10 +136,11 @@ pub fn around(
     down: Taps,
     across: Taps,
 ) -> Carried
-    requires { ⌜ Moves (now «forward_x») (now «forward_y») (now «backward_x») (now «backward_y») grid ratio × Rows (grid .height) down × (across .first < grid .width) ⌝ }
-    ensures { λ r. ⌜ Carries (motionOf (now («forward_x» .entry)) (now («forward_y» .entry)) (now («backward_x» .entry)) (now («backward_y» .entry)) grid) ratio down across r ⌝ }
+    requires { ⌜ Moves (fieldsOf «forward_x» «forward_y» «backward_x» «backward_y») grid ratio × Rows (grid .height) down × (across .first < grid .width) ⌝ }
+    ensures { λ r. ⌜ Carries (motionOf (fieldsOf («forward_x» .entry) («forward_y» .entry) («backward_x» .entry) («backward_y» .entry)) grid) ratio down across r ⌝ }
 {
     let first = across.first;
+    let after = plane::after(first, grid.width);
     let left = columns(
         forward_x,
         forward_y,
@@ -157,7 +159,7 @@ pub fn around(
         grid,
         ratio,
         down,
-        sample::after(first, grid.width),
+        after,
     );
     Carried {
         first,
@@ -167,20 +169,34 @@ pub fn around(
     }
 }
 
+// The same of fields that come together.
+pub fn around(fields: [&[u16]; 4], grid: Grid, ratio: usize, down: Taps, across: Taps) -> Carried
+    requires { ⌜ Moves fields grid ratio × Rows (grid .height) down × (across .first < grid .width) ⌝ }
+    ensures { λ r. ⌜ Carries (motionOf (fields .entry) grid) ratio down across r ⌝ }
+{
+    read(
+        fields[0],
+        fields[1],
+        fields[2],
+        fields[3],
+        grid,
+        ratio,
+        down,
+        across,
+    )
+}
+
 // The columns around a pixel between two: those of the pixel before it, where they are the same.
 pub fn carry_to(
-    forward_x: &[u16],
-    forward_y: &[u16],
-    backward_x: &[u16],
-    backward_y: &[u16],
+    fields: [&[u16]; 4],
     grid: Grid,
     ratio: usize,
     down: Taps,
     previous: Carried,
     across: Taps,
 ) -> Carried
-    requires { ⌜ Moves (now «forward_x») (now «forward_y») (now «backward_x») (now «backward_y») grid ratio × Rows (grid .height) down × Holds (motionOf (now «forward_x») (now «forward_y») (now «backward_x») (now «backward_y») grid) ratio down previous × (across .first < grid .width) ⌝ }
-    ensures { λ r. ⌜ Carries (motionOf (now («forward_x» .entry)) (now («forward_y» .entry)) (now («backward_x» .entry)) (now («backward_y» .entry)) grid) ratio down across r ⌝ }
+    requires { ⌜ Moves fields grid ratio × Rows (grid .height) down × Holds (motionOf fields grid) ratio down previous × (across .first < grid .width) ⌝ }
+    ensures { λ r. ⌜ Carries (motionOf (fields .entry) grid) ratio down across r ⌝ }
 {
     if across.first == previous.first {
         let left = previous.left;
@@ -192,11 +208,11 @@ pub fn carry_to(
             right,
         };
     }
-    around(
-        forward_x,
-        forward_y,
-        backward_x,
-        backward_y,
+    read(
+        fields[0],
+        fields[1],
+        fields[2],
+        fields[3],
         grid,
         ratio,
         down,
@@ -206,24 +222,18 @@ pub fn carry_to(
 
 // The same of pixel column x.
 pub fn carry(
-    forward_x: &[u16],
-    forward_y: &[u16],
-    backward_x: &[u16],
-    backward_y: &[u16],
+    fields: [&[u16]; 4],
     grid: Grid,
     ratio: usize,
     down: Taps,
     previous: Carried,
     x: usize,
 ) -> Carried
-    requires { ⌜ Moves (now «forward_x») (now «forward_y») (now «backward_x») (now «backward_y») grid ratio × Rows (grid .height) down × Holds (motionOf (now «forward_x») (now «forward_y») (now «backward_x») (now «backward_y») grid) ratio down previous × (x ≤ 4096) ⌝ }
-    ensures { λ r. ⌜ Carries (motionOf (now («forward_x» .entry)) (now («forward_y» .entry)) (now («backward_x» .entry)) (now («backward_y» .entry)) grid) ratio down (columnTaps (motionOf (now («forward_x» .entry)) (now («forward_y» .entry)) (now («backward_x» .entry)) (now («backward_y» .entry)) grid) ratio x) r ⌝ }
+    requires { ⌜ Moves fields grid ratio × Rows (grid .height) down × Holds (motionOf fields grid) ratio down previous × (x ≤ 4096) ⌝ }
+    ensures { λ r. ⌜ Carries (motionOf (fields .entry) grid) ratio down (columnTaps (motionOf (fields .entry) grid) ratio x) r ⌝ }
 {
     carry_to(
-        forward_x,
-        forward_y,
-        backward_x,
-        backward_y,
+        fields,
         grid,
         ratio,
         down,
@@ -233,12 +243,12 @@ pub fn carry(
 }
 
 // How far a pixel moves: its columns, mixed.
-pub fn steps_of(c: Carried) -> Steps
-    ensures { λ r. ⌜ r ≡ mixedSteps c ⌝ }
+pub fn steps_of(carried: Carried) -> Steps
+    ensures { λ r. ⌜ r ≡ mixedSteps carried ⌝ }
 {
-    let left = c.left;
-    let right = c.right;
-    let share = c.share;
+    let left = carried.left;
+    let right = carried.right;
+    let share = carried.share;
     Steps {
         fx: float::mix(left.fx, right.fx, share),
         fy: float::mix(left.fy, right.fy, share),

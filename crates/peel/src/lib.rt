@@ -1,109 +1,60 @@
-// Peel and unpeel: the layer taken off, and laid on again. The contract of each is the equation for accepted and refused calls.
-use layered::Work;
-use lent::Shape;
+// Peel and unpeel: the layer taken off, and laid on again. The contract of each is the equation for accepted and
+// refused calls.
+use layer_lent::Shape;
+use lift_pixel::Work;
 use rules::Answer;
-ghost use Rattle.rules.specs.Calls.{PeelCall, UnpeelCall};
-ghost use Rattle.rules.specs.Peel.{peelAnswer, peelLeaves};
-ghost use Rattle.rules.specs.Unpeel.{unpeelAnswer, unpeelLeaves};
-ghost use Rattle.lent.specs.Lent.{lay};
-ghost use Rattle.peel.specs.Done.{Done};
+ghost use Rattle.peel.specs.Call.{peelOf, unpeelOf, Peeled, Unpeeled};
 
+// Peels a plane. The pitches of the shape's frames are not looked at: those of the byte planes stand beside them.
 pub fn peel(
     output: &mut [u8],
-    opitch: usize,
-    s: Shape,
-    l: &[i16],
-    lb: &[u8],
-    a: &[i16],
-    ab: &[u8],
-    b: &[i16],
-    bb: &[u8],
+    shape: Shape,
+    numbers: [&[i16]; 3],
+    bytes: [&[u8]; 3],
     raw: &[u8],
     pitch: usize,
 ) -> Answer
-    ensures { λ r. ⌜ (let c : PeelCall = record { layer = lay s (now (l .entry)) (now (lb .entry)) (now (a .entry)) (now (ab .entry)) (now (b .entry)) (now (bb .entry)); plane = s .plane; output = record { bytes = now (output .entry); pitch = opitch }; raw = record { bytes = now (raw .entry); pitch = pitch } } in Done (peelAnswer c) (peelLeaves c) (now (output .exit)) r) ⌝ }
+    ensures { λ r. ⌜ Peeled (peelOf shape (numbers .entry) (bytes .entry) (now (output .entry)) (raw .entry) pitch) (now (output .exit)) r ⌝ }
 {
-    let number = refuse::peel_refusal(s, l, lb, a, ab, b, bb, output, opitch, raw, pitch);
+    let mut over = shape;
+    over.first_pitch = pitch;
+    over.second_pitch = pitch;
+    let frames = [raw, raw];
+    let number = layer_refuse::peel_refusal(over, numbers, bytes, output, frames);
     if number != 0 {
         return Answer { number, count: 0 };
     }
-    let p = lent::planned(s);
-    let count = layered_rows::rows(
-        output,
-        opitch,
-        Work::Peel,
-        p,
-        l,
-        lb,
-        a,
-        ab,
-        b,
-        bb,
-        raw,
-        pitch,
-        raw,
-        pitch,
-    );
+    let plan = layer_lent::planned(over);
+    let count = lift_rows::rows(output, Work::Peel, plan, numbers, bytes, frames);
     Answer { number: 0, count }
 }
 
-pub fn unpeel(
-    output: &mut [u8],
-    opitch: usize,
-    s: Shape,
-    l: &[i16],
-    lb: &[u8],
-    a: &[i16],
-    ab: &[u8],
-    b: &[i16],
-    bb: &[u8],
-    first: &[u8],
-    fpitch: usize,
-    second: &[u8],
-    spitch: usize,
-    time: f32,
+// Unpeels one. Here too they stand beside the planes.
+pub fn unpeel<'o, 'n, 'b, 'f>(
+    output: &'o mut [u8],
+    shape: Shape,
+    numbers: [&'n [i16]; 3],
+    bytes: [&'b [u8]; 3],
+    first: &'f [u8],
+    first_pitch: usize,
+    second: &'f [u8],
+    second_pitch: usize,
 ) -> Answer
-    ensures { λ r. ⌜ (let c : UnpeelCall = record { layer = lay s (now (l .entry)) (now (lb .entry)) (now (a .entry)) (now (ab .entry)) (now (b .entry)) (now (bb .entry)); plane = s .plane; output = record { bytes = now (output .entry); pitch = opitch }; frames = record { first = record { bytes = now (first .entry); pitch = fpitch }; second = record { bytes = now (second .entry); pitch = spitch }; time = time } } in Done (unpeelAnswer c) (unpeelLeaves c) (now (output .exit)) r) ⌝ }
+    ensures { λ r. ⌜ Unpeeled (unpeelOf shape (numbers .entry) (bytes .entry) (now (output .entry)) (first .entry) «first_pitch» (second .entry) «second_pitch») (now (output .exit)) r ⌝ }
 {
-    let refusal = refuse::unpeel_refusal(
-        s,
-        l,
-        lb,
-        a,
-        ab,
-        b,
-        bb,
-        output,
-        opitch,
-        first,
-        fpitch,
-        second,
-        spitch,
-        time,
-    );
+    let mut over = shape;
+    over.first_pitch = first_pitch;
+    over.second_pitch = second_pitch;
+    let frames = [first, second];
+    let refusal = layer_refuse::unpeel_refusal(over, numbers, bytes, output, frames);
     if refusal != 0 {
         return Answer {
             number: refusal,
             count: 0,
         };
     }
-    let p = lent::planned(s);
-    let laid = layered_rows::rows(
-        output,
-        opitch,
-        Work::Unpeel(time),
-        p,
-        l,
-        lb,
-        a,
-        ab,
-        b,
-        bb,
-        first,
-        fpitch,
-        second,
-        spitch,
-    );
+    let plan = layer_lent::planned(over);
+    let laid = lift_rows::rows(output, Work::Unpeel, plan, numbers, bytes, frames);
     Answer {
         number: 0,
         count: laid,

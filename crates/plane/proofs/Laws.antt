@@ -1,5 +1,5 @@
--- The laws of a pass over a plane, stated once over any rule: what one pixel, a run of pixels passed over, and one row add to what is painted and counted.
--- Assumes nothing.
+-- The laws of a pass over a plane, stated once over any rule: what one pixel, a run of pixels passed over, and one row
+-- add to what is painted and counted. Assumes nothing.
 use mathlib.Core.Path.{_≡_, refl, sym, ap, _∙_}
 use mathlib.Core.Bool.{Bool, true, false, cond, _&&_}
 use mathlib.Core.List.{List}

@@ -1,10 +1,12 @@
-// Byte planes: the tests of sizes, ratios, pitches, lengths and times, and one pixel of a pass.
+// Byte planes: the tests of sizes, ratios, pitches, lengths and times, choices without a branch, and one pixel of a
+// pass.
 ghost use mathlib.Core.Path.{_≡_};
 ghost use mathlib.Core.Bool.{_&&_, _||_, not, cond};
-ghost use Prim.Native.Nat.{_+_, _-_, _*_, _/_, _%_, _<_, _≤_, _^_};
+ghost use Prim.Native.Nat.{_+_, _-_, _*_, _/_, _%_, _<_, _≤_, _^_, min};
 ghost use lib.Dec.{leb, eqb};
 ghost use lib.ListN.{length};
-ghost use Rattle.rules.specs.Domain.{isSize, isRatio, isPitch, isTime};
+ghost use Rattle.rules.specs.Float.{within as withinOf};
+ghost use Rattle.rules.specs.Domain.{isSize, areSizes, isRatio, isPitch, isTime};
 ghost use Rattle.plane.specs.Done.{Stamped};
 
 // What a rule does to one pixel: it keeps its byte, or a byte is put in its place.
@@ -34,6 +36,13 @@ pub fn sized(n: usize) -> bool
     1 <= n && n <= 4096
 }
 
+// A width and a height.
+pub fn sizes(width: usize, height: usize) -> bool
+    ensures { λ r. ⌜ r ≡ areSizes (width, height) ⌝ }
+{
+    both(sized(width), sized(height))
+}
+
 // A pitch that rows of this width can have.
 pub fn pitched(pitch: usize, width: usize) -> bool
     ensures { λ r. ⌜ r ≡ isPitch pitch width ⌝ }
@@ -41,11 +50,18 @@ pub fn pitched(pitch: usize, width: usize) -> bool
     width <= pitch && pitch <= 65536
 }
 
+// From lo to hi.
+pub fn within(x: f32, lo: f32, hi: f32) -> bool
+    ensures { λ r. ⌜ r ≡ withinOf x lo hi ⌝ }
+{
+    both(lo <= x, x <= hi)
+}
+
 // A time from 0 to 1.
 pub fn timed(time: f32) -> bool
     ensures { λ r. ⌜ r ≡ isTime time ⌝ }
 {
-    both(0.0 <= time, time <= 1.0)
+    within(time, 0.0, 1.0)
 }
 
 // Two tests, or three, joined without a branch of the caller's own.
@@ -59,6 +75,35 @@ pub fn all(a: bool, b: bool, c: bool) -> bool
     ensures { λ r. ⌜ r ≡ (a && b && c) ⌝ }
 {
     both(both(a, b), c)
+}
+
+// One of two tests, without a branch of the caller's own.
+pub fn either(a: bool, b: bool) -> bool
+    ensures { λ r. ⌜ r ≡ (a || b) ⌝ }
+{
+    a || b
+}
+
+// A yes as 1, a no as 0: a number that can be added or taken off without a branch.
+pub fn bit(b: bool) -> u8
+    ensures { λ r. ⌜ r ≡ cond b 1 0 ⌝ }
+{
+    if b { 1 } else { 0 }
+}
+
+// One of two bytes, without a branch of the caller's own.
+pub fn chosen(yes: bool, new: u8, old: u8) -> u8
+    ensures { λ r. ⌜ r ≡ cond yes new old ⌝ }
+{
+    if yes { new } else { old }
+}
+
+// The column or row after k, the last repeated.
+pub fn after(k: usize, size: usize) -> usize
+    requires { ⌜ k < size ⌝ }
+    ensures { λ r. ⌜ (r ≡ min (k + 1) (size - 1)) × (r < size) ⌝ }
+{
+    if k + 1 < size { k + 1 } else { size - 1 }
 }
 
 // A row of a table of refusals: its number unless all is right, else what the rows after it say.

@@ -14,12 +14,12 @@ use Rattle.rules.specs.Motion.{rowTaps, columnTaps}
 use Rattle.rules.specs.Render.{far, timed, reach, rendered, ownSteps, seen, renderRule}
 use Rattle.plane.specs.declared.Change.the-variants.{Keep, Put}
 use Rattle.plane.specs.Done.{change}
-use Rattle.choice.specs.Kept.{isWithin}
-use Rattle.moved.specs.Shown.{seenBy, byteBy}
-use Rattle.lent.specs.declared.Plan.{Plan}
-use Rattle.lent.specs.Lent.{holding, Planned}
-use Rattle.lent.proofs.Plans.{span-is}
-use Rattle.cell.specs.Cells.{CellEnd}
+use Rattle.render_choice.specs.Kept.{isWithin}
+use Rattle.render_pixel.specs.Shown.{seenBy, byteBy}
+use Rattle.layer_lent.specs.declared.Plan.{Plan}
+use Rattle.layer_lent.specs.Lent.{Numbers, Bytes, holding, Planned}
+use Rattle.layer_lent.proofs.Plans.{span-is}
+use Rattle.layer_cell.specs.Cells.{CellEnd}
 use Rattle.motion.specs.declared.Carried.{Carried}
 use Rattle.motion.specs.Moves.{Carries, mixedSteps}
 use Rattle.motion.proofs.Fields.{carried-steps}
@@ -49,27 +49,27 @@ module _ (l : Layer) (plane : ℕ) (f : Frames) (m : Motion) (algo : ℤ) (x y :
 
 -- ---- by the stored distance, and by the columns that are carried
 
-module _ (j : Job) (l a b : List ℤ) (first second fx fy bx by : List ℕ) (w : Works j l a b first second fx fy bx by) where
+module _ (j : Job) (numbers : Numbers) (bytes frames fields : Bytes) (w : Works j numbers bytes frames fields) where
   -- pixels with one stored distance lie within `far`, or beyond it
-  gap-far : (x y : ℕ) (d : ℤ) (t : Bool) → distance (layerIn j l a b first) (j .plan .shape .plane) x y ≡ d → isWithin (gapOf d) (j .far) ≡ t
-      → isWithin (gap (layerIn j l a b first) (j .plan .shape .plane) x y) (far (motionIn j fx fy bx by)) ≡ t
+  gap-far : (x y : ℕ) (d : ℤ) (t : Bool) → distance (layerIn j numbers bytes) (j .plan .shape .plane) x y ≡ d → isWithin (gapOf d) (j .far) ≡ t
+      → isWithin (gap (layerIn j numbers bytes) (j .plan .shape .plane) x y) (far (motionIn j fields)) ≡ t
   unfolding gap
   gap-far x y d t e h = rw (e, ← w .far-is) h
 
-  pub pixel-is : (x y old : ℕ) (d : ℤ) (down : Taps) (c : Carried) (t s : Steps) → Near j (layerIn j l a b first) y x (x + 1) d
-      → down ≡ rowTaps (motionIn j fx fy bx by) (j .plan .span) y
-      → Carries (motionIn j fx fy bx by) (j .plan .span) down (columnTaps (motionIn j fx fy bx by) (j .plan .span) x) c → t ≡ mixedSteps c → s ≡ timed (j .time) t
-      → changeBy (layerIn j l a b first) (j .plan .shape .plane) (framesIn j first second) (j .plan .span) s (gap (layerIn j l a b first) (j .plan .shape .plane) x y) (j .algo) x y
-      ≡ change (ruleIn j l a b first second fx fy bx by) x y old
+  pub pixel-is : (x y old : ℕ) (d : ℤ) (down : Taps) (c : Carried) (t s : Steps) → Near j (layerIn j numbers bytes) y x (x + 1) d
+      → down ≡ rowTaps (motionIn j fields) (j .plan .span) y
+      → Carries (motionIn j fields) (j .plan .span) down (columnTaps (motionIn j fields) (j .plan .span) x) c → t ≡ mixedSteps c → s ≡ timed (j .plan .shape .time) t
+      → changeBy (layerIn j numbers bytes) (j .plan .shape .plane) (framesIn j frames) (j .plan .span) s (gap (layerIn j numbers bytes) (j .plan .shape .plane) x y) (j .algo) x y
+      ≡ change (ruleIn j numbers bytes frames fields) x y old
   unfolding ownSteps
   pixel-is x y old d down c t s near rows carries mixed so =
-      let m = motionIn j fx fy bx by in
+      let m = motionIn j fields in
       let r = span-is (j .plan) (w .framed .first-ready .lies .sound .planned) in
-      let own = so ∙ ap (timed (j .time)) (mixed ∙ carried-steps m (j .plan .span) x y c (rw rows at carries)) in
-      rw r (change-is (layerIn j l a b first) (j .plan .shape .plane) (framesIn j first second) m (j .algo) x y old s (rw r at own) (gap-far x y d true (near .one x (omega arith) (omega arith)) (near .near)))
+      let own = so ∙ ap (timed (j .plan .shape .time)) (mixed ∙ carried-steps m (j .plan .span) x y c (rw rows at carries)) in
+      rw r (change-is (layerIn j numbers bytes) (j .plan .shape .plane) (framesIn j frames) m (j .algo) x y old s (rw r at own) (gap-far x y d true (near .one x (omega arith) (omega arith)) (near .near)))
 
-  pub far-cell : (y from to : ℕ) (d : ℤ) → ((k : ℕ) → from ≤ k → k < to → distance (layerIn j l a b first) (j .plan .shape .plane) k y ≡ d)
-      → isWithin (gapOf d) (j .far) ≡ false → (k : ℕ) → from ≤ k → k < to → ruleIn j l a b first second fx fy bx by .writes k y ≡ false
+  pub far-cell : (y from to : ℕ) (d : ℤ) → ((k : ℕ) → from ≤ k → k < to → distance (layerIn j numbers bytes) (j .plan .shape .plane) k y ≡ d)
+      → isWithin (gapOf d) (j .far) ≡ false → (k : ℕ) → from ≤ k → k < to → ruleIn j numbers bytes frames fields .writes k y ≡ false
   far-cell y from to d one t k low high = far-is _ _ _ _ _ k y (gap-far k y d false (one k low high) t)
 
 -- a part of a part

@@ -8,9 +8,9 @@ use Rattle.rules.specs.Forms.{Rule}
 use Rattle.plane.specs.declared.Change.{Change}
 use Rattle.plane.specs.Done.{change, Stamped, RowDone}
 use Rattle.plane.proofs.Laws.{row-none}
-use Rattle.lent.specs.declared.Plan.{Plan}
-use Rattle.layered_rows.specs.Rows.{RunAsks, RowAsks, RowOn}
-use Rattle.layered_rows.proofs.Cells.{run-none, run-more}
+use Rattle.layer_lent.specs.declared.Plan.{Plan}
+use Rattle.lift_rows.specs.Rows.{RunAsks, RowAsks, RowOn}
+use Rattle.lift_rows.proofs.Cells.{run-none, run-more}
 
 -- one pixel
 pub run-one : {rule : Rule} {pitch y x : ℕ} {bytes after : List ℕ} {n r : ℕ} {d : Change} → d ≡ change rule x y (getD bytes (y * pitch + x) 0)
@@ -28,14 +28,14 @@ run-whole {rule} {pitch} {y} {count = count} {before = before} a = a .on before 
 
 -- a part of a part, or of a row, after some of it is done
 module _ (now : List ℕ) (x end n : ℕ) (ahead : x < end) where
-  pub part-asks : {p : Plan} {output : List ℕ} {pitch y from to count : ℕ} → RunAsks p output pitch y from to count → from ≤ x → end ≤ to
-      → length now ≡ length output → n ≤ count + (x - from) → RunAsks p now pitch y x end n
+  pub part-asks : {p : Plan} {output : List ℕ} {y from to count : ℕ} → RunAsks p output (record { y = y; from = from; to = to; count = count }) → from ≤ x → end ≤ to
+      → length now ≡ length output → n ≤ count + (x - from) → RunAsks p now (record { y = y; from = x; to = end; count = n })
   part-asks h low high same few =
       let room = h .room in
       record { above = h .above; narrow = h .narrow; ahead = omega arith; within = omega (arith, h .within); room = omega arith; few = omega (arith, h .few) }
 
-  pub row-asks : {p : Plan} {output : List ℕ} {pitch y count : ℕ} → RowAsks p output pitch y count → end ≤ p .across → p .across ≤ 4096
-      → length now ≡ length output → n ≤ count + (x - 0) → RunAsks p now pitch y x end n
+  pub row-asks : {p : Plan} {output : List ℕ} {y count : ℕ} → RowAsks p output y count → end ≤ p .across → p .across ≤ 4096
+      → length now ≡ length output → n ≤ count + (x - 0) → RunAsks p now (record { y = y; from = x; to = end; count = n })
   row-asks h high small same few =
       let room = h .room in
       record { above = h .above; narrow = h .narrow; ahead = omega arith; within = high; room = omega arith; few = omega (arith, h .few) }

@@ -1,30 +1,25 @@
 // The rows of a frame made between two others, with the layer laid on: row by row, in a row cell by cell.
-use lent::Plan;
+// The layer is lent as numbers; `bytes` is for its readers, which do not look at it then.
+use layer_lent::Plan;
 use motion::Carried;
 use motion::Grid;
 use plane::Change;
+use render_pixel::Spot;
 use rules::Steps;
 use rules::Taps;
 ghost use mathlib.Core.Path.{_≡_};
-ghost use Prim.Native.Nat.{_+_};
-ghost use Rattle.rules.specs.Reading.{gap as gapOf, distance as distanceOf};
-ghost use Rattle.plane.specs.Done.{RowDone, RowsDone};
-ghost use Rattle.lent.specs.Lent.{Inside};
-ghost use Rattle.cell.specs.Cells.{CellEnd};
-ghost use Rattle.moved.specs.Shown.{Framed};
-ghost use Rattle.layered_rows.specs.Rows.{RunAsks, RowAsks, RowsAsk};
-ghost use Rattle.render_rows.specs.Jobs.{layerIn, framesIn, motionIn, ruleIn, Works, changeBy, Near, Carrying, RunDone};
+ghost use Rattle.layer_lent.specs.Lent.{Inside};
+ghost use Rattle.layer_cell.specs.Cells.{CellEnd};
+ghost use Rattle.render_pixel.specs.Shown.{Framed};
+ghost use Rattle.lift_rows.specs.Rows.{RowAsks, RowsAsk};
+ghost use Rattle.render_rows.specs.Jobs.{distanceIn, Works, changeIn, only, PieceAsks, Holding, PieceHolds, PieceNear, PieceDone, RowIn, RowsIn};
 
 // What a call is lent besides slices, and what follows from it.
 pub struct Job {
     pub algo: i32,
-    pub time: f32,
     pub far: f32,
     pub plan: Plan,
     pub grid: Grid,
-    pub output_pitch: usize,
-    pub first_pitch: usize,
-    pub second_pitch: usize,
 }
 
 // What is carried along a row: the count, and the columns of the last pixel's motion.
@@ -33,40 +28,46 @@ pub struct Run {
     pub carried: Carried,
 }
 
-// What is done to a pixel that moves by these steps.
-fn render_change(
-    j: Job,
-    l: &[i16],
-    a: &[i16],
-    b: &[i16],
-    first: &[u8],
-    second: &[u8],
-    s: Steps,
-    d: i16,
+// A pixel, and the grid's rows around it.
+struct Place {
     x: usize,
     y: usize,
+    down: Taps,
+}
+
+// The pixels of a row from a column to another, and the grid's rows around it.
+struct Piece {
+    y: usize,
+    down: Taps,
+    from: usize,
+    to: usize,
+}
+
+// What is done to a pixel that moves by these steps.
+fn render_change(
+    job: Job,
+    numbers: [&[i16]; 3],
+    bytes: [&[u8]; 3],
+    frames: [&[u8]; 2],
+    steps: Steps,
+    distance: i16,
+    spot: Spot,
 ) -> Change
-    requires { ⌜ Framed (j .plan) (now l) (now a) (now b) (now first) (j .«first_pitch») (now second) (j .«second_pitch») × Inside (j .plan) x y × (d ≡ distanceOf (layerIn j (now l) (now a) (now b) (now first)) (j .plan .shape .plane) x y) ⌝ }
-    ensures { λ r. ⌜ r ≡ changeBy (layerIn j (now (l .entry)) (now (a .entry)) (now (b .entry)) (now (first .entry))) (j .plan .shape .plane) (framesIn j (now (first .entry)) (now (second .entry))) (j .plan .span) s (gapOf (layerIn j (now (l .entry)) (now (a .entry)) (now (b .entry)) (now (first .entry))) (j .plan .shape .plane) x y) (j .algo) x y ⌝ }
+    requires { ⌜ Framed (job .plan) numbers bytes frames × Inside (job .plan) (spot .x) (spot .y) × (distance ≡ distanceIn job numbers bytes (spot .x) (spot .y)) ⌝ }
+    ensures { λ r. ⌜ r ≡ changeIn job (numbers .entry) (bytes .entry) (frames .entry) steps (spot .x) (spot .y) ⌝ }
 {
-    let p = j.plan;
-    if choice::reached(cell::gap(d), p.span, s) {
-        let near = cell::near(d);
-        Change::Put(moved::composed(
-            p,
-            l,
-            a,
-            b,
-            first,
-            j.first_pitch,
-            second,
-            j.second_pitch,
-            j.time,
-            s,
+    let plan = job.plan;
+    if render_choice::reached(layer_cell::gap(distance), plan.span, steps) {
+        let near = layer_cell::near(distance);
+        Change::Put(render_pixel::composed(
+            plan,
+            numbers,
+            bytes,
+            frames,
+            steps,
             near,
-            j.algo,
-            x,
-            y,
+            job.algo,
+            spot,
         ))
     } else {
         Change::Keep
@@ -76,136 +77,109 @@ fn render_change(
 // One pixel.
 fn render_pixel(
     output: &mut [u8],
-    j: Job,
-    l: &[i16],
-    a: &[i16],
-    b: &[i16],
-    first: &[u8],
-    second: &[u8],
-    forward_x: &[u16],
-    forward_y: &[u16],
-    backward_x: &[u16],
-    backward_y: &[u16],
-    down: Taps,
+    job: Job,
+    numbers: [&[i16]; 3],
+    bytes: [&[u8]; 3],
+    frames: [&[u8]; 2],
+    fields: [&[u16]; 4],
     run: Run,
-    d: i16,
-    x: usize,
-    y: usize,
+    distance: i16,
+    place: Place,
 ) -> Run
-    requires { ⌜ Works j (now l) (now a) (now b) (now first) (now second) (now «forward_x») (now «forward_y») (now «backward_x») (now «backward_y») × RunAsks (j .plan) (now output) (j .«output_pitch») y x (x + 1) (run .count) × Carrying (motionIn j (now «forward_x») (now «forward_y») (now «backward_x») (now «backward_y»)) (j .plan .span) y down (run .carried) × Near j (layerIn j (now l) (now a) (now b) (now first)) y x (x + 1) d ⌝ }
-    ensures { λ r. ⌜ RunDone (ruleIn j (now (l .entry)) (now (a .entry)) (now (b .entry)) (now (first .entry)) (now (second .entry)) (now («forward_x» .entry)) (now («forward_y» .entry)) (now («backward_x» .entry)) (now («backward_y» .entry))) (j .«output_pitch») y x (x + 1) (motionIn j (now («forward_x» .entry)) (now («forward_y» .entry)) (now («backward_x» .entry)) (now («backward_y» .entry))) (j .plan .span) down (run .count) (now (output .entry)) (now (output .exit)) r ⌝ }
+    requires { ⌜
+        Works job numbers bytes frames fields × PieceAsks job (now output) (only place) (run .count)
+        × PieceHolds job fields (only place) run × PieceNear job numbers bytes (only place) distance ⌝ }
+    ensures { λ r. ⌜ PieceDone job (numbers .entry) (bytes .entry) (frames .entry) (fields .entry) (only place) (run .count) (now (output .entry)) (now (output .exit)) r ⌝ }
 {
-    let p = j.plan;
+    let plan = job.plan;
     let carried = motion::carry(
-        forward_x,
-        forward_y,
-        backward_x,
-        backward_y,
-        j.grid,
-        p.span,
-        down,
+        fields,
+        job.grid,
+        plan.span,
+        place.down,
         run.carried,
-        x,
+        place.x,
     );
-    let s = choice::timed(j.time, motion::steps_of(carried));
-    let change = render_change(j, l, a, b, first, second, s, d, x, y);
-    let k = plane::place(y, j.output_pitch, x);
+    let steps = render_choice::timed(plan.shape.time, motion::steps_of(carried));
+    let spot = Spot {
+        x: place.x,
+        y: place.y,
+    };
+    let change = render_change(job, numbers, bytes, frames, steps, distance, spot);
+    let k = plane::place(place.y, plan.shape.output_pitch, place.x);
     let count = plane::stamp(output, k, change, run.count);
     Run { count, carried }
 }
 
-// The pixels of a row from a column to another, with one stored distance.
+// The pixels of a piece, with one stored distance.
 fn render_run(
     output: &mut [u8],
-    j: Job,
-    l: &[i16],
-    a: &[i16],
-    b: &[i16],
-    first: &[u8],
-    second: &[u8],
-    forward_x: &[u16],
-    forward_y: &[u16],
-    backward_x: &[u16],
-    backward_y: &[u16],
-    down: Taps,
+    job: Job,
+    numbers: [&[i16]; 3],
+    bytes: [&[u8]; 3],
+    frames: [&[u8]; 2],
+    fields: [&[u16]; 4],
     run: Run,
-    d: i16,
-    y: usize,
-    from: usize,
-    to: usize,
+    distance: i16,
+    piece: Piece,
 ) -> Run
-    requires { ⌜ Works j (now l) (now a) (now b) (now first) (now second) (now «forward_x») (now «forward_y») (now «backward_x») (now «backward_y») × RunAsks (j .plan) (now output) (j .«output_pitch») y from to (run .count) × Carrying (motionIn j (now «forward_x») (now «forward_y») (now «backward_x») (now «backward_y»)) (j .plan .span) y down (run .carried) × Near j (layerIn j (now l) (now a) (now b) (now first)) y from to d ⌝ }
-    ensures { λ r. ⌜ RunDone (ruleIn j (now (l .entry)) (now (a .entry)) (now (b .entry)) (now (first .entry)) (now (second .entry)) (now («forward_x» .entry)) (now («forward_y» .entry)) (now («backward_x» .entry)) (now («backward_y» .entry))) (j .«output_pitch») y from to (motionIn j (now («forward_x» .entry)) (now («forward_y» .entry)) (now («backward_x» .entry)) (now («backward_y» .entry))) (j .plan .span) down (run .count) (now (output .entry)) (now (output .exit)) r ⌝ }
+    requires { ⌜ Works job numbers bytes frames fields × PieceAsks job (now output) piece (run .count) × PieceHolds job fields piece run × PieceNear job numbers bytes piece distance ⌝ }
+    ensures { λ r. ⌜ PieceDone job (numbers .entry) (bytes .entry) (frames .entry) (fields .entry) piece (run .count) (now (output .entry)) (now (output .exit)) r ⌝ }
 {
-    let mut r = run;
-    let mut x = from;
-    while x < to {
-        r = render_pixel(
-            output,
-            j,
-            l,
-            a,
-            b,
-            first,
-            second,
-            forward_x,
-            forward_y,
-            backward_x,
-            backward_y,
-            down,
-            r,
-            d,
+    let mut last = run;
+    let mut x = piece.from;
+    while x < piece.to {
+        let down = piece.down;
+        let place = Place {
             x,
-            y,
+            y: piece.y,
+            down,
+        };
+        last = render_pixel(
+            output,
+            job,
+            numbers,
+            bytes,
+            frames,
+            fields,
+            last,
+            distance,
+            place,
         );
         x += 1;
     }
-    r
+    last
 }
 
-// The pixels of a row in one cell. A far cell is passed over, and no step is reckoned.
+// The pixels of a piece in one cell. A far cell is passed over, and no step is reckoned.
 fn render_cell(
     output: &mut [u8],
-    j: Job,
-    l: &[i16],
-    a: &[i16],
-    b: &[i16],
-    first: &[u8],
-    second: &[u8],
-    forward_x: &[u16],
-    forward_y: &[u16],
-    backward_x: &[u16],
-    backward_y: &[u16],
-    down: Taps,
+    job: Job,
+    numbers: [&[i16]; 3],
+    bytes: [&[u8]; 3],
+    frames: [&[u8]; 2],
+    fields: [&[u16]; 4],
     run: Run,
-    y: usize,
-    from: usize,
-    to: usize,
+    piece: Piece,
 ) -> Run
-    requires { ⌜ Works j (now l) (now a) (now b) (now first) (now second) (now «forward_x») (now «forward_y») (now «backward_x») (now «backward_y») × RunAsks (j .plan) (now output) (j .«output_pitch») y from to (run .count) × Carrying (motionIn j (now «forward_x») (now «forward_y») (now «backward_x») (now «backward_y»)) (j .plan .span) y down (run .carried) × CellEnd from (j .plan .side) (j .plan .across) to ⌝ }
-    ensures { λ r. ⌜ RunDone (ruleIn j (now (l .entry)) (now (a .entry)) (now (b .entry)) (now (first .entry)) (now (second .entry)) (now («forward_x» .entry)) (now («forward_y» .entry)) (now («backward_x» .entry)) (now («backward_y» .entry))) (j .«output_pitch») y from to (motionIn j (now («forward_x» .entry)) (now («forward_y» .entry)) (now («backward_x» .entry)) (now («backward_y» .entry))) (j .plan .span) down (run .count) (now (output .entry)) (now (output .exit)) r ⌝ }
+    requires { ⌜
+        Works job numbers bytes frames fields × PieceAsks job (now output) piece (run .count)
+        × PieceHolds job fields piece run × CellEnd (piece .from) (job .plan .side) (job .plan .across) (piece .to) ⌝ }
+    ensures { λ r. ⌜ PieceDone job (numbers .entry) (bytes .entry) (frames .entry) (fields .entry) piece (run .count) (now (output .entry)) (now (output .exit)) r ⌝ }
 {
-    let p = j.plan;
-    let d = cell::distance(p, b, first, from, y);
-    if choice::within(cell::gap(d), j.far) {
+    let plan = job.plan;
+    let distance = layer_cell::distance(plan, numbers[2], bytes[2], piece.from, piece.y);
+    if render_choice::within(layer_cell::gap(distance), job.far) {
         render_run(
             output,
-            j,
-            l,
-            a,
-            b,
-            first,
-            second,
-            forward_x,
-            forward_y,
-            backward_x,
-            backward_y,
-            down,
+            job,
+            numbers,
+            bytes,
+            frames,
+            fields,
             run,
-            d,
-            y,
-            from,
-            to,
+            distance,
+            piece,
         )
     } else {
         run
@@ -215,46 +189,30 @@ fn render_cell(
 // The cells of a row, one after the other.
 fn render_cells(
     output: &mut [u8],
-    j: Job,
-    l: &[i16],
-    a: &[i16],
-    b: &[i16],
-    first: &[u8],
-    second: &[u8],
-    forward_x: &[u16],
-    forward_y: &[u16],
-    backward_x: &[u16],
-    backward_y: &[u16],
+    job: Job,
+    numbers: [&[i16]; 3],
+    bytes: [&[u8]; 3],
+    frames: [&[u8]; 2],
+    fields: [&[u16]; 4],
     down: Taps,
     start: Run,
     y: usize,
 ) -> usize
-    requires { ⌜ Works j (now l) (now a) (now b) (now first) (now second) (now «forward_x») (now «forward_y») (now «backward_x») (now «backward_y») × RowAsks (j .plan) (now output) (j .«output_pitch») y (start .count) × Carrying (motionIn j (now «forward_x») (now «forward_y») (now «backward_x») (now «backward_y»)) (j .plan .span) y down (start .carried) ⌝ }
-    ensures { λ r. ⌜ RowDone (ruleIn j (now (l .entry)) (now (a .entry)) (now (b .entry)) (now (first .entry)) (now (second .entry)) (now («forward_x» .entry)) (now («forward_y» .entry)) (now («backward_x» .entry)) (now («backward_y» .entry))) (j .«output_pitch») y (j .plan .across) (start .count) (now (output .entry)) (now (output .exit)) r ⌝ }
+    requires { ⌜ Works job numbers bytes frames fields × RowAsks (job .plan) (now output) y (start .count) × Holding job fields y down start ⌝ }
+    ensures { λ r. ⌜ RowIn job (numbers .entry) (bytes .entry) (frames .entry) (fields .entry) y (start .count) (now (output .entry)) (now (output .exit)) r ⌝ }
 {
-    let p = j.plan;
+    let plan = job.plan;
     let mut run = start;
     let mut x = 0;
-    while x < p.across {
-        let end = cell::cell_end(x, p.side, p.across);
-        run = render_cell(
-            output,
-            j,
-            l,
-            a,
-            b,
-            first,
-            second,
-            forward_x,
-            forward_y,
-            backward_x,
-            backward_y,
-            down,
-            run,
+    while x < plan.across {
+        let end = layer_cell::cell_end(x, plan.side, plan.across);
+        let piece = Piece {
             y,
-            x,
-            end,
-        );
+            down,
+            from: x,
+            to: end,
+        };
+        run = render_cell(output, job, numbers, bytes, frames, fields, run, piece);
         x = end;
     }
     run.count
@@ -263,92 +221,44 @@ fn render_cells(
 // One row: the grid's rows around it are found once.
 fn render_row(
     output: &mut [u8],
-    j: Job,
-    l: &[i16],
-    a: &[i16],
-    b: &[i16],
-    first: &[u8],
-    second: &[u8],
-    forward_x: &[u16],
-    forward_y: &[u16],
-    backward_x: &[u16],
-    backward_y: &[u16],
+    job: Job,
+    numbers: [&[i16]; 3],
+    bytes: [&[u8]; 3],
+    frames: [&[u8]; 2],
+    fields: [&[u16]; 4],
     count: usize,
     y: usize,
 ) -> usize
-    requires { ⌜ Works j (now l) (now a) (now b) (now first) (now second) (now «forward_x») (now «forward_y») (now «backward_x») (now «backward_y») × RowAsks (j .plan) (now output) (j .«output_pitch») y count ⌝ }
-    ensures { λ r. ⌜ RowDone (ruleIn j (now (l .entry)) (now (a .entry)) (now (b .entry)) (now (first .entry)) (now (second .entry)) (now («forward_x» .entry)) (now («forward_y» .entry)) (now («backward_x» .entry)) (now («backward_y» .entry))) (j .«output_pitch») y (j .plan .across) count (now (output .entry)) (now (output .exit)) r ⌝ }
+    requires { ⌜ Works job numbers bytes frames fields × RowAsks (job .plan) (now output) y count ⌝ }
+    ensures { λ r. ⌜ RowIn job (numbers .entry) (bytes .entry) (frames .entry) (fields .entry) y count (now (output .entry)) (now (output .exit)) r ⌝ }
 {
-    let p = j.plan;
-    let grid = j.grid;
-    let down = motion::row_taps(grid, p.span, y);
-    let across = motion::column_taps(grid, p.span, 0);
-    let carried = motion::around(
-        forward_x,
-        forward_y,
-        backward_x,
-        backward_y,
-        grid,
-        p.span,
-        down,
-        across,
-    );
+    let plan = job.plan;
+    let grid = job.grid;
+    let down = motion::row_taps(grid, plan.span, y);
+    let across = motion::column_taps(grid, plan.span, 0);
+    let carried = motion::around(fields, grid, plan.span, down, across);
     let start = Run { count, carried };
-    render_cells(
-        output,
-        j,
-        l,
-        a,
-        b,
-        first,
-        second,
-        forward_x,
-        forward_y,
-        backward_x,
-        backward_y,
-        down,
-        start,
-        y,
-    )
+    render_cells(output, job, numbers, bytes, frames, fields, down, start, y)
 }
 
 // All rows.
 pub fn render_rows(
     output: &mut [u8],
-    j: Job,
-    l: &[i16],
-    a: &[i16],
-    b: &[i16],
-    first: &[u8],
-    second: &[u8],
-    forward_x: &[u16],
-    forward_y: &[u16],
-    backward_x: &[u16],
-    backward_y: &[u16],
+    job: Job,
+    numbers: [&[i16]; 3],
+    bytes: [&[u8]; 3],
+    frames: [&[u8]; 2],
+    fields: [&[u16]; 4],
 ) -> usize
-    requires { ⌜ Works j (now l) (now a) (now b) (now first) (now second) (now «forward_x») (now «forward_y») (now «backward_x») (now «backward_y») × RowsAsk (j .plan) (now output) (j .«output_pitch») ⌝ }
-    ensures { λ r. ⌜ RowsDone (ruleIn j (now (l .entry)) (now (a .entry)) (now (b .entry)) (now (first .entry)) (now (second .entry)) (now («forward_x» .entry)) (now («forward_y» .entry)) (now («backward_x» .entry)) (now («backward_y» .entry))) (j .plan .across) (j .plan .down) (j .«output_pitch») (now (output .entry)) (now (output .exit)) r ⌝ }
+    requires { ⌜ Works job numbers bytes frames fields × RowsAsk (job .plan) (now output) ⌝ }
+    ensures { λ r. ⌜ RowsIn job (numbers .entry) (bytes .entry) (frames .entry) (fields .entry) (now (output .entry)) (now (output .exit)) r ⌝ }
 {
-    let p = j.plan;
-    let mut n = 0;
+    let plan = job.plan;
+    let mut count = 0;
     let mut y = 0;
-    while y < p.down {
-        n = render_row(
-            output,
-            j,
-            l,
-            a,
-            b,
-            first,
-            second,
-            forward_x,
-            forward_y,
-            backward_x,
-            backward_y,
-            n,
-            y,
-        );
+    while y < plan.down {
+        count = render_row(output, job, numbers, bytes, frames, fields, count, y);
         y += 1;
     }
-    n
+    count
 }

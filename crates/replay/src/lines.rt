@@ -3,10 +3,12 @@ use crate::tally::CALLS;
 use crate::tally::COUNTS;
 use libc::STDOUT_FILENO;
 
+// Prints bytes.
 fn print(text: &[u8]) {
     io::write_all(STDOUT_FILENO, text);
 }
 
+// The name of a call by its number; the number past the last is for all.
 fn name(id: usize) {
     match id {
         0 => print(b"distances"),
@@ -26,6 +28,7 @@ fn name(id: usize) {
     }
 }
 
+// One line.
 fn line(id: usize, equal: u64, different: u64) {
     name(id);
     print(b": ");
@@ -46,6 +49,7 @@ fn shown(id: usize, equal: u64, different: u64) -> bool {
     id == CALLS
 }
 
+// The lines of the calls, and the last.
 pub fn all(equal: &[u64; COUNTS], different: &[u64; COUNTS]) {
     let mut id = 0;
     while id < COUNTS {

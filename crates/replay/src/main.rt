@@ -1,5 +1,11 @@
-// Runs the stored list of the Rust's answers through the exported functions, and prints how many cases of each call are equal and how many different.
+// Runs the stored list of the Rust's answers through the exported functions, and prints how many cases of each call are
+// equal and how many different.
+mod arguments;
+mod calls;
 mod lines;
+mod list;
+mod loads;
+mod right;
 mod tally;
 
 ghost use mathlib.Core.Path.{_≡_};
@@ -12,6 +18,7 @@ fn space() -> [u8; 524288]
     [0; 524288]
 }
 
+// Reads the list, runs it and prints the counts.
 fn main() {
     let path = b"answers";
     let fd = os::open_read(path);

@@ -31,9 +31,9 @@ offsetOf models plane at = cond (eqb plane 1) (getD models at unfitted .chroma .
 -- "the whole-number sum over its luma pixels of the rounded offset/ratio²", at entry k of a chroma plane
 unfoldable pub chromaTotal : List Fitted → (width ratio plane k : ℕ) → ℤ
 chromaTotal models width ratio plane k =
-    let half = width / ratio in
+    let across = width / ratio in
     let term : ℕ → ℤ = λ at. storedOffset (offsetOf models plane at ⊘ float (ratio * ratio)) .0 in
-    scan (λ dx dy t. t +ℤ term ((k / half * ratio + dy) * width + (k % half * ratio + dx))) (ratio, ratio) (pos 0)
+    scan (λ dx dy t. t +ℤ term ((k / across * ratio + dy) * width + (k % across * ratio + dx))) (ratio, ratio) (pos 0)
 
 -- "partial sums may leave the range, the total may not": whether every total of both planes is in -32768..32767
 unfoldable pub totalsFit : List Fitted → (size : ℕ × ℕ) → (ratio : ℕ) → Bool
@@ -43,10 +43,10 @@ totalsFit models size ratio =
     all (area (shrunk size ratio)) (λ k. inRange (total 1 k) && inRange (total 2 k))
 
 -- entry j of the cells, "one row per chroma row; all other entries there .. are 0"
-unfoldable pub cellEntry : (cover : List ℕ) → (size : ℕ × ℕ) → (half j : ℕ) → ℤ
-cellEntry cover size half j =
-    let x = j % half in
-    let y = j / half in
+unfoldable pub cellEntry : (cover : List ℕ) → (size : ℕ × ℕ) → (across j : ℕ) → ℤ
+cellEntry cover size across j =
+    let x = j % across in
+    let y = j / across in
     pos (cond (ltb x (cells (size .0)) && ltb y (cells (size .1))) (getD cover (y * cells (size .0) + x) 0) 0)
 
 -- "Cells stand in the second half of chroma[1]", and "the second half of chroma[0]" is 0

@@ -20,9 +20,61 @@ isRatio ratio size = (eqb ratio 1 || eqb ratio 2 || eqb ratio 4) && eqb (size .0
 abbrev pub isPitch : (pitch width : ℕ) → Bool
 isPitch pitch width = leb width pitch && leb pitch 65536
 
+-- ---- lengths; a size is luma's width and height
+
 -- "A byte plane has at least (rows-1) times pitch plus row width bytes."
+abbrev pub planeLength : (pitch : ℕ) → ℕ × ℕ → ℕ
+planeLength pitch size = (size .1 - 1) * pitch + size .0
+
+-- "A layer's luma slice has at least 2 times pitch times height numbers"
+abbrev pub layerLength : (pitch height : ℕ) → ℕ
+layerLength pitch height = 2 * (pitch * height)
+
+-- "each chroma slice 2 times chroma pitch times chroma rows"
+abbrev pub layerChromaLength : (pitch rows : ℕ) → ℕ
+layerChromaLength pitch rows = 2 * (pitch * rows)
+
+-- "six f32 sums per luma pixel"
+abbrev pub sumsLength : ℕ × ℕ → ℕ
+sumsLength size = 6 * area size
+
+-- "two per chroma pixel in a slice for each chroma plane"
+abbrev pub chromaSumsLength : ℕ × ℕ → (ratio : ℕ) → ℕ
+chromaSumsLength size ratio = 2 * area (shrunk size ratio)
+
+-- an output of fit and assemble: "Luma holds all gains, then all offsets."
+abbrev pub fitLength : ℕ × ℕ → ℕ
+fitLength size = 2 * area size
+
+-- and one for each chroma plane, a "second half" behind its offsets
+abbrev pub fitChromaLength : ℕ × ℕ → (ratio : ℕ) → ℕ
+fitChromaLength size ratio = 2 * area (shrunk size ratio)
+
+-- "A model slice holds four f32 per luma pixel"
+abbrev pub modelsLength : ℕ × ℕ → ℕ
+modelsLength size = 4 * area size
+
+-- the second of "Fit's work slices", which says what is kept: "one byte per luma pixel"
+abbrev pub keptLength : ℕ × ℕ → ℕ
+keptLength size = area size
+
+-- "A cover has width/8 times height/8 bytes, each quotient rounded up."
+abbrev pub coverLength : ℕ × ℕ → ℕ
+coverLength size = cells (size .0) * cells (size .1)
+
+-- "motion fields .. have exact lengths": a number for each block of the grid
+abbrev pub fieldLength : ℕ × ℕ → ℕ
+fieldLength grid = area grid
+
+-- "masks have exact lengths": what `mask` fills, a byte per pixel
+abbrev pub maskLength : ℕ × ℕ → ℕ
+maskLength size = area size
+
+-- ---- slices of these lengths
+
+-- a byte plane
 abbrev pub isPlane : Plane → ℕ × ℕ → Bool
-isPlane p size = leb ((size .1 - 1) * p .pitch + size .0) (length (p .bytes))
+isPlane p size = leb (planeLength (p .pitch) size) (length (p .bytes))
 
 -- the pitches, and the lengths, of some byte planes of this width and height
 abbrev pub havePitches : List Plane → ℕ × ℕ → Bool
@@ -31,44 +83,43 @@ havePitches planes size = each (λ p. isPitch (p .pitch) (size .0)) planes
 abbrev pub haveLengths : List Plane → ℕ × ℕ → Bool
 haveLengths planes size = each (λ p. isPlane p size) planes
 
--- three slices of exact lengths: so many entries per luma pixel, two per chroma pixel
-abbrev pub areExact : {A : Type 0} → (many : ℕ) → List A → List A × List A → ℕ × ℕ → (ratio : ℕ) → Bool
-areExact many luma chroma size ratio =
-    let half = 2 * area (shrunk size ratio) in
-    eqb (length luma) (many * area size) && eqb (length (chroma .0)) half && eqb (length (chroma .1)) half
+-- three slices of exact lengths, one for luma and one for both of chroma
+abbrev pub areExact : {A : Type 0} → List A → List A × List A → (lengths : ℕ × ℕ) → Bool
+areExact luma chroma lengths =
+    eqb (length luma) (lengths .0) && eqb (length (chroma .0)) (lengths .1) && eqb (length (chroma .1)) (lengths .1)
 
--- "six f32 sums per luma pixel", two per chroma pixel
+-- the sums of a part
 abbrev pub areSums : Part → ℕ × ℕ → (ratio : ℕ) → Bool
-areSums p size ratio = areExact 6 (p .luma) (p .chroma) size ratio
+areSums p size ratio = areExact (p .luma) (p .chroma) (sumsLength size, chromaSumsLength size ratio)
 
--- outputs of fit and assemble: two numbers per pixel of each plane
+-- outputs of fit and assemble
 abbrev pub isFit : Fit → ℕ × ℕ → (ratio : ℕ) → Bool
-isFit f size ratio = areExact 2 (f .luma) (f .chroma) size ratio
+isFit f size ratio = areExact (f .luma) (f .chroma) (fitLength size, fitChromaLength size ratio)
 
--- "A model slice holds four f32 per luma pixel."
+-- a model slice
 abbrev pub areModels : List Float → ℕ × ℕ → Bool
-areModels models size = eqb (length models) (4 * area size)
+areModels models size = eqb (length models) (modelsLength size)
 
--- "A cover has width/8 times height/8 bytes, each quotient rounded up."
+-- a cover
 abbrev pub isCover : List ℕ → ℕ × ℕ → Bool
-isCover cover size = eqb (length cover) (cells (size .0) * cells (size .1))
+isCover cover size = eqb (length cover) (coverLength size)
 
 -- a layer's two pitches
 abbrev pub layerPitches : Layer → Bool
 layerPitches l = isPitch (l .pitch .0) (l .size .0) && isPitch (l .pitch .1) (l .size .0 / l .ratio)
 
--- "at least 2 times pitch times height numbers, each chroma slice 2 times chroma pitch times chroma rows"
+-- and its three slices
 abbrev pub layerLengths : Layer → Bool
 layerLengths l =
-    leb (2 * (l .pitch .0 * l .size .1)) (length (l .luma))
-    && leb (2 * (l .pitch .1 * (l .size .1 / l .ratio))) (length (l .chroma .0))
-    && leb (2 * (l .pitch .1 * (l .size .1 / l .ratio))) (length (l .chroma .1))
+    leb (layerLength (l .pitch .0) (l .size .1)) (length (l .luma))
+    && leb (layerChromaLength (l .pitch .1) (l .size .1 / l .ratio)) (length (l .chroma .0))
+    && leb (layerChromaLength (l .pitch .1) (l .size .1 / l .ratio)) (length (l .chroma .1))
 
--- "motion fields .. have exact lengths"
+-- motion's four fields
 abbrev pub motionLengths : Motion → Bool
 motionLengths m =
-    eqb (length (m .forward .0)) (area (m .grid)) && eqb (length (m .forward .1)) (area (m .grid))
-    && eqb (length (m .backward .0)) (area (m .grid)) && eqb (length (m .backward .1)) (area (m .grid))
+    eqb (length (m .forward .0)) (fieldLength (m .grid)) && eqb (length (m .forward .1)) (fieldLength (m .grid))
+    && eqb (length (m .backward .0)) (fieldLength (m .grid)) && eqb (length (m .backward .1)) (fieldLength (m .grid))
 
 -- whether z is from lo to hi
 abbrev pub spans : (lo hi z : ℤ) → Bool

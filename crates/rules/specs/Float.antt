@@ -74,7 +74,8 @@ median a b c = max (min a b) (min (max a b) c)
 
 -- ---- rounding, in whole numbers on the float's own fraction
 
--- the whole number nearest to m * 2 ^ e, of two as near the larger: with 2 ^ e as the fraction up e / down e, m * 2 ^ e + 1 / 2, cut
+-- the whole number nearest to m * 2 ^ e, of two as near the larger: with 2 ^ e as the fraction up e / down e, m * 2 ^ e
+-- + 1 / 2, cut
 abbrev pub nearest : ℕ → ℤ → ℕ
 nearest m e = (2 * (m * up e) + down e) / (2 * down e)
 
@@ -95,9 +96,9 @@ unfoldable pub pixel : Float → ℕ
 pixel x = cond (negative x) 0 (rounded 255 x)
 
 -- "rounded half away from zero, held to ±32767, NaN as 0"
-unfoldable pub storedOf : Float → ℤ
-storedOf y = let size = pos (rounded 32767 y) in cond (negative y) (negℤ size) size
+unfoldable pub roundedShort : Float → ℤ
+roundedShort y = let size = pos (rounded 32767 y) in cond (negative y) (negℤ size) size
 
 -- "times the scale", and so rounded
 unfoldable pub stored : (value scale : Float) → ℤ
-stored value scale = storedOf (value ⊗ scale)
+stored value scale = roundedShort (value ⊗ scale)

@@ -1,4 +1,5 @@
--- "Rust forms and their stand-ins": the Rust's structs as records, and the words for going through counts, lists and planes.
+-- "Rust forms and their stand-ins": the Rust's structs as records, and the words for going through counts, lists and
+-- planes.
 use Rattle.rules.specs.Words.{Bool, true, false, cond, _&&_, _||_, List, [], _∷_, ℕ, zero, suc, _+_, _-_, _*_, _/_, eqb, ℤ, pos, negsuc, getD, set, Float, Answer}
 use Prim.Native.Nat.{max}
 
@@ -24,7 +25,8 @@ pub record Pair : Type 0 where
   pub second : Plane × Plane × Plane
   pub motion : Motion
 
--- a part, the Rust's `Stats`: "six f32 sums per luma pixel", "two per chroma pixel in a slice for each chroma plane", and its pairs
+-- a part, the Rust's `Stats`: "six f32 sums per luma pixel", "two per chroma pixel in a slice for each chroma plane",
+-- and its pairs
 pub record Part : Type 0 where
   pub luma : List Float
   pub chroma : List Float × List Float

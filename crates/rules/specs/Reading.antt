@@ -7,9 +7,9 @@ use Rattle.rules.specs.Float.{_⊕_, _⊖_, _⊗_, _⊘_, float, signed,
 use Rattle.rules.specs.Forms.{Plane, Fit, Layer, planeRatio, planeSize, all, scan, cells, isNumber, uncounted}
 use Rattle.rules.specs.Refusals.{emptyRefusal}
 
--- the layer that fit stored, the Rust's `Fit::layer`: its own pitches are its rows' widths
-abbrev pub layerOf : Fit → (size : ℕ × ℕ) → (ratio : ℕ) → Layer
-layerOf f size ratio =
+-- what fit stored, read as the layer that it left, the Rust's `Fit::layer`: its own pitches are its rows' widths
+abbrev pub asLeft : Fit → (size : ℕ × ℕ) → (ratio : ℕ) → Layer
+asLeft f size ratio =
     record { luma = f .luma; chroma = f .chroma; pitch = (size .0, size .0 / ratio); size = size; ratio = ratio }
 
 -- the stored number of the cell in column x and row y: "the second half of a slice begins at entry pitch times rows"

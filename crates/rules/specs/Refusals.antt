@@ -2,9 +2,9 @@
 use Rattle.rules.specs.Words.{Bool, cond, not, _&&_, _||_, List, [], _∷_, ℕ, leb, eqb, length}
 use Rattle.rules.specs.Literals.{0·0, 0·5, 255·0, 65536·0}
 use Rattle.rules.specs.Float.{within}
-use Rattle.rules.specs.Forms.{Plane, Motion, Pair, Part, Layer, area, shrunk, planeSize}
+use Rattle.rules.specs.Forms.{Plane, Motion, Pair, Part, Layer, shrunk, planeSize}
 use Rattle.rules.specs.Calls.{StatsCall, FitCall, AssembleCall, DistancesCall, PeelCall, UnpeelCall, RenderCall, MaskCall, ApplyCall, HoldCall}
-use Rattle.rules.specs.Domain.{areSizes, isRatio, havePitches, haveLengths, areSums, isFit, areModels, isCover, layerPitches, layerLengths, motionLengths, motionNumbers, isTime, areSteps}
+use Rattle.rules.specs.Domain.{keptLength, maskLength, areSizes, isRatio, havePitches, haveLengths, areSums, isFit, areModels, isCover, layerPitches, layerLengths, motionLengths, motionNumbers, isTime, areSteps}
 
 -- a row: the number, and whether it fits; a number may have several rows, and a row several tests
 infix 20 _unless_
@@ -54,12 +54,12 @@ chromas p = p .first .1 ∷ p .first .2 ∷ p .second .1 ∷ p .second .2 ∷ []
 -- "12 or more pairs already summed in stats"
 unfoldable pub statsRefusal : StatsCall → ℕ
 statsRefusal c =
-    let half = shrunk (c .size) (c .ratio) in
+    let chromaSize = shrunk (c .size) (c .ratio) in
     firstFitting (sizeRows (c .size) (c .ratio) (
     (3 unless havePitches (lumas (c .pair)) (c .size))
-    ∷ (3 unless havePitches (chromas (c .pair)) half)
+    ∷ (3 unless havePitches (chromas (c .pair)) chromaSize)
     ∷ (4 unless haveLengths (lumas (c .pair)) (c .size))
-    ∷ (4 unless haveLengths (chromas (c .pair)) half)
+    ∷ (4 unless haveLengths (chromas (c .pair)) chromaSize)
     ∷ (4 unless areSums (c .sums) (c .size) (c .ratio))
     ∷ motionRows (c .pair .motion) (
     (7 unless leb (c .sums .pairs) 11)
@@ -79,7 +79,7 @@ fitTable c totals =
     ∷ (4 unless areSums (parts .own) size (c .ratio))
     ∷ (4 unless isNeighbour (parts .next) size (c .ratio))
     ∷ (4 unless areModels (c .models) size)
-    ∷ (4 unless eqb (length (c .kept)) (area size))
+    ∷ (4 unless eqb (length (c .kept)) (keptLength size))
     ∷ (4 unless isCover (c .cover) size)
     ∷ (4 unless isFit (c .output) size (c .ratio))
     ∷ (6 unless within (c .limit) 0·5 255·0)
@@ -129,7 +129,7 @@ renderRefusal c =
 unfoldable pub maskRefusal : MaskCall → ℕ
 maskRefusal c =
     firstFitting (
-    (1 unless areSizes (c .size)) ∷ planeRows (c .first ∷ c .second ∷ []) (c .size) ((4 unless eqb (length (c .still)) (area (c .size))) ∷ []))
+    (1 unless areSizes (c .size)) ∷ planeRows (c .first ∷ c .second ∷ []) (c .size) ((4 unless eqb (length (c .still)) (maskLength (c .size))) ∷ []))
 
 -- apply: "in apply and hold, a mask width or mask length with no whole step of 1..8"
 unfoldable pub applyRefusal : ApplyCall → ℕ

@@ -55,15 +55,16 @@ moved l plane raw x y dx dy =
     let v = heldTo (float y ⊕ dy) (size .1) in
     record { scene = scene l plane raw u v true; on = isOn (modelAt l plane u v); raw = sample raw u v size }
 
--- one side's scene: its raw sample instead, where the layer is on at this side alone, both are lifted, and the raw sample is nearer to the other
--- side's than the lifted one is, which is `gap` away from it
+-- one side's scene: its raw sample instead, where the layer is on at this side alone, both are lifted, and the raw
+-- sample is nearer to the other side's than the lifted one is, which is `gap` away from it
 unfoldable pub exchanged : (mine other : Moved) → (gap : Float) → Scene
 exchanged mine other gap =
     cond (mine .on && not (other .on) && isLifted (mine .scene) && isLifted (other .scene) && (abs (mine .raw ⊖ value (other .scene)) ≺ gap))
     (Lifted (mine .raw))
     (mine .scene)
 
--- "`algo` 1 prefers the second, 2 the first, others the median"; a lifted side wins over a raw one, and two raw ones give the base
+-- "`algo` 1 prefers the second, 2 the first, others the median"; a lifted side wins over a raw one, and two raw ones
+-- give the base
 unfoldable pub chosen : (first second : Scene) → (base : Float) → (algo : ℤ) → Float
 chosen (Lifted f) (Lifted b) base algo = cond (isNumber algo 1) b (cond (isNumber algo 2) f (median f b base))
 chosen (Lifted f) (Raw b) base algo = f
@@ -83,7 +84,8 @@ base l plane f x y =
 
 -- ---- the pixel
 
--- own bytes mixed by time where |gain| < 0.2, or on the layer where they differ by at most 2.5; else gain times the scene, plus offset
+-- own bytes mixed by time where |gain| < 0.2, or on the layer where they differ by at most 2.5; else gain times the
+-- scene, plus offset
 unfoldable pub composed : Model → (layered : Bool) → (first second time scene : Float) → Float
 composed m layered first second time scene =
     cond ((abs (m .gain) ≺ 0·2) || (layered && (abs (first ⊖ second) ≼ 2·5))) (mix first second time) (m .gain ⊗ scene ⊕ m .offset)

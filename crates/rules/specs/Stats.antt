@@ -43,10 +43,10 @@ statsSums c =
     let f = c .pair .first in
     let s = c .pair .second in
     let m = c .pair .motion in
-    let half = shrunk (c .size) (c .ratio) in
+    let chromaSize = shrunk (c .size) (c .ratio) in
     record {
       luma = added (p .pairs) 6 (p .luma) (f .0) (s .0) m (c .size) 1;
-      chroma = (added (p .pairs) 2 (p .chroma .0) (f .1) (s .1) m half (c .ratio), added (p .pairs) 2 (p .chroma .1) (f .2) (s .2) m half (c .ratio));
+      chroma = (added (p .pairs) 2 (p .chroma .0) (f .1) (s .1) m chromaSize (c .ratio), added (p .pairs) 2 (p .chroma .1) (f .2) (s .2) m chromaSize (c .ratio));
       pairs = suc (p .pairs);
     }
 

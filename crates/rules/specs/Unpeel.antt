@@ -9,7 +9,8 @@ use Rattle.rules.specs.Reading.{texel, at}
 use Rattle.rules.specs.Scene.{lift}
 use Rattle.rules.specs.Peel.{layered}
 
--- "Own bytes mixed by time if |gain| < 0.2 or they differ by at most 2.5; else gain times the median of old byte and both lifted values, plus offset."
+-- "Own bytes mixed by time if |gain| < 0.2 or they differ by at most 2.5; else gain times the median of old byte and
+-- both lifted values, plus offset."
 unfoldable pub relaid : Model → (first second time old : Float) → Float
 relaid m first second time old =
     cond ((abs (m .gain) ≺ 0·2) || (abs (first ⊖ second) ≼ 2·5))

@@ -45,6 +45,17 @@ pub struct Reply {
 
 // The Rust's tuples on the way to those answers.
 
+// Six sums, or the six terms that a pair of frames adds to them, over moved samples p and the samples i in their place:
+// of both, of squares and products, and how many lie far apart.
+pub struct Sums {
+    pub p: f32,
+    pub i: f32,
+    pub pp: f32,
+    pub pi: f32,
+    pub ii: f32,
+    pub apart: f32,
+}
+
 // Means, variances and covariance of the sums, in `model`.
 pub struct Spread {
     pub mp: f32,

@@ -1,28 +1,27 @@
--- A point of a plane is cut by adding 2 ^ 23 and taking it off; held to a side, it is cut to one of its places.
+-- A point of a plane lies where it can be cut by 2 ^ 23; held to a side, it is cut to one of its places.
 -- Assumes nothing.
-use mathlib.Core.Path.{_≡_, refl, sym, ap, _∙_}
-use mathlib.Core.Bool.{Bool, true, false, cond, true≢false, false≢true}
-use Prim.Native.Nat.{ℕ, suc, _-_, _*_, _/_, _^_, _≤_, _<_, min, zero-le}
+use mathlib.Core.Path.{_≡_, refl, sym, _∙_}
+use mathlib.Core.Bool.{Bool, true, false, cond, true≢false}
+use Prim.Native.Nat.{ℕ, _-_, _*_, _/_, _^_, _≤_, _<_, min, zero-le}
 use native.Mathlib.Nat.{lt-of-le-of-lt, div-lt-iff-lt-mul}
 use native.Mathlib.Omega.{arith}
 use lib.IntN.{pos}
 use lib.Dec.{T, ltb, lt→ltb, le→leb, nltb→le}
-use lib.Ieee.{Float, nan, inf, fin, binary32, up, down, lt, le, add, sub, ofInt, ofBits, toUnsigned, inUnsigned}
+use lib.Ieee.{Float, nan, inf, fin, binary32, up, down, lt, le, ofBits, toUnsigned}
 use lib.Ieee.Fits.{down-pos}
 use Rattle.rules.specs.Literals.{0·0}
-use Rattle.rules.specs.Float.{float, cut, clamp}
+use Rattle.rules.specs.Float.{float, cut, clamp, negative}
 use Rattle.rules.specs.Reading.{heldTo}
-use Rattle.float.proofs.Floor.{Floored, floored, there-and-back, big, number}
 use Rattle.laws.proofs.Value.{not-of}
 use Rattle.laws.proofs.Order.{not-lt-of-le}
-use Rattle.float.proofs.Index.{cut-clamp}
-use Rattle.laws.proofs.Whole.{int-le}
+use Rattle.float.proofs.Index.{cut-nought, cut-clamp}
+use Rattle.laws.proofs.Whole.{zero-is, int-le}
 use Rattle.sample.specs.Points.{positiveOf, Held}
 
 -- ---- x where it is above 0
 
 -- what is above 0 and cut to a small number lies below 2 ^ 23
-small : (x : Float) → T (lt 0·0 x) → cut x ≤ 4096 → T (lt x big)
+small : (x : Float) → T (lt 0·0 x) → cut x ≤ 4096 → T (lt x (fin false 1 (pos 23)))
 unfolding lt toUnsigned ofBits
 small nan p h = p
 small (inf true) p h = tt
@@ -55,50 +54,30 @@ none (fin false m e) h =
     held : (q : ℕ) → q < 1 → min q (2 ^ 64 - 1) ≡ 0
     held q h = omega arith
 
-zero-floored : Floored 0·0 (there-and-back 0·0)
-unfolding ofBits add sub ofInt lt toUnsigned
-zero-floored = record { r = 0; is = refl; small = zero-le; more = λ t. absurd (false≢true t); same = λ t. refl }
+-- above 0 there is no sign
+unsigned : (x : Float) → T (lt 0·0 x) → negative x ≡ false
+unfolding lt negative ofBits
+unsigned nan p = refl
+unsigned (inf true) p = absurd p
+unsigned (inf false) p = refl
+unsigned (fin true m e) p = absurd p
+unsigned (fin false m e) p = refl
 
-zero-cut : cut 0·0 ≡ 0
-unfolding ofBits toUnsigned
-zero-cut = refl
+-- a point of a plane, made positive, can be cut by 2 ^ 23, and is cut to the same number
+pub record Cuts (x q : Float) : Type 0 where
+  pub sign : negative q ≡ false
+  pub under : T (lt q (fin false 1 (pos 23)))
+  pub is : cut q ≡ cut x
 
--- a point of a plane, made positive, can be cut so, and is cut to the same number
-known : (x : Float) → cut x ≤ 4096 → Floored (positiveOf x) (there-and-back (positiveOf x)) × (cut (positiveOf x) ≡ cut x)
-unfolding ofBits
-known x h = go (lt 0·0 x) (λ p. floored x p (small x p h)) (none x)
+pub cuts : (x : Float) → cut x ≤ 4096 → Cuts x (positiveOf x)
+unfolding ofBits negative lt
+cuts x h = go (lt 0·0 x) (λ p. record { sign = unsigned x p; under = small x p h; is = refl }) (none x)
   where
-    go : (b : Bool) → (T b → Floored x (there-and-back x)) → (b ≡ false → cut x ≡ 0)
-        → Floored (cond b x 0·0) (there-and-back (cond b x 0·0)) × (cut (cond b x 0·0) ≡ cut x)
-    go true f g = (f tt, refl)
-    go false f g = (zero-floored, zero-cut ∙ sym (g refl))
-
--- the number that is left, less one where it is too large
-taken : (q w : Float) (F : Floored q w) → (cond (lt q w) 1 0 ≤ toUnsigned 32 w) × (toUnsigned 32 w - cond (lt q w) 1 0 ≡ cut q)
-taken q w F = go (lt q w) (F .more) (F .same)
-  where
-    go : (b : Bool) → (b ≡ true → F .r ≡ suc (cut q)) → (b ≡ false → F .r ≡ cut q)
-        → (cond b 1 0 ≤ toUnsigned 32 w) × (toUnsigned 32 w - cond b 1 0 ≡ cut q)
-    go true f g = let n = number q w F .1 in let m = f refl in (omega arith, omega arith)
-    go false f g = let n = number q w F .1 in let m = g refl in (omega arith, omega arith)
-
-pub record Cuts (x q w : Float) : Type 0 where
-  pub whole : T (inUnsigned binary32 32 w)
-  pub enough : cond (lt q w) 1 0 ≤ toUnsigned 32 w
-  pub is : toUnsigned 32 w - cond (lt q w) 1 0 ≡ cut x
-
-pub cuts : (x q : Float) → cut x ≤ 4096 → q ≡ positiveOf x → Cuts x q (there-and-back q)
-cuts x q h e =
-    let k = known x h in
-    let f : Floored q (there-and-back q) = rw e (k .0) in
-    let t = taken q (there-and-back q) f in
-    record { whole = number q (there-and-back q) f .0; enough = t .0; is = t .1 ∙ ap (λ (z : Float). cut z) e ∙ k .1 }
+    go : (b : Bool) → (T b → Cuts x x) → (b ≡ false → cut x ≡ 0) → Cuts x (cond b x 0·0)
+    go true f g = f tt
+    go false f g = record { sign = refl; under = tt; is = cut-nought ∙ sym (g refl) }
 
 -- ---- held to a side
-
-zero-is : float 0 ≡ 0·0
-unfolding ofBits ofInt
-zero-is = refl
 
 origin : (n : ℕ) → n ≤ 2 ^ 24 → T (le 0·0 (float n))
 origin n h = rw zero-is at (int-le binary32 (pos 0) (pos n) zero-le h (le→leb 0 n zero-le))

@@ -1,11 +1,11 @@
 // A byte plane, read at a pixel and between pixels.
 use rules::Taps;
 ghost use mathlib.Core.Path.{_≡_};
-ghost use mathlib.Core.Bool.{cond};
-ghost use Prim.Native.Nat.{_+_, _-_, _*_, _<_, _≤_, min};
+ghost use Prim.Native.Nat.{_+_, _*_, _<_, _≤_};
 ghost use lib.ListN.{length};
 ghost use Rattle.rules.specs.Float.{float, cut, _⊕_};
 ghost use Rattle.rules.specs.Reading.{at as atOf};
+ghost use Rattle.calls.specs.Lent.{planeOf};
 ghost use Rattle.sample.specs.Points.{positiveOf, PlaneFits, Held, Within, around, sampledRow, sampledAt};
 
 // x where it is above 0, and 0 for a NaN too.
@@ -15,30 +15,12 @@ fn positive(x: f32) -> f32
     if x > 0.0 { x } else { 0.0 }
 }
 
-// 1 or 0, as a number that can be taken off without a branch.
-fn one_if(b: bool) -> u32
-    ensures { λ r. ⌜ r ≡ cond b 1 0 ⌝ }
-{
-    if b { 1 } else { 0 }
-}
-
-// The whole number below a point of a plane: 2^23 added and taken off leaves that number, or one more.
+// The whole number below a point of a plane.
 pub fn whole(x: f32) -> u32
     requires { ⌜ cut x ≤ 4096 ⌝ }
     ensures { λ r. ⌜ r ≡ cut x ⌝ }
 {
-    let q = positive(x);
-    let w = q + 8388608.0 - 8388608.0;
-    let n = w as u32;
-    n - one_if(q < w)
-}
-
-// The column or row after k, the last repeated.
-pub fn after(k: usize, size: usize) -> usize
-    requires { ⌜ k < size ⌝ }
-    ensures { λ r. ⌜ (r ≡ min (k + 1) (size - 1)) × (r < size) ⌝ }
-{
-    if k + 1 < size { k + 1 } else { size - 1 }
+    float::cut_low(positive(x))
 }
 
 // A coordinate held to the plane. Below 0 first: two tests that make no branch.
@@ -66,7 +48,7 @@ pub fn taps_at(x: f32, first: usize, size: usize) -> Taps
 {
     Taps {
         first,
-        second: after(first, size),
+        second: plane::after(first, size),
         share: x - float::of_size(first),
     }
 }
@@ -82,7 +64,7 @@ pub fn between(x: f32, size: usize) -> Taps
 // A byte of a plane as a float.
 pub fn at(raw: &[u8], pitch: usize, x: usize, y: usize) -> f32
     requires { ⌜ (x ≤ 65536) × (y ≤ 65536) × (pitch ≤ 65536) × (y * pitch + x < length (now raw)) ⌝ }
-    ensures { λ r. ⌜ r ≡ atOf (record { bytes = now (raw .entry); pitch = pitch }) x y ⌝ }
+    ensures { λ r. ⌜ r ≡ atOf (planeOf (now (raw .entry)) pitch) x y ⌝ }
 {
     let k = plane::place(y, pitch, x);
     float::of_byte(raw[k])
@@ -91,7 +73,7 @@ pub fn at(raw: &[u8], pitch: usize, x: usize, y: usize) -> f32
 // Two bytes of a row, mixed.
 fn sample_row(raw: &[u8], pitch: usize, across: Taps, y: usize, width: usize, height: usize) -> f32
     requires { ⌜ PlaneFits (now raw) pitch width height × (across .first < width) × (across .second < width) × (y < height) ⌝ }
-    ensures { λ r. ⌜ r ≡ sampledRow (record { bytes = now (raw .entry); pitch = pitch }) across y ⌝ }
+    ensures { λ r. ⌜ r ≡ sampledRow (planeOf (now (raw .entry)) pitch) across y ⌝ }
 {
     let m = at(raw, pitch, across.first, y);
     let n = at(raw, pitch, across.second, y);
@@ -108,7 +90,7 @@ pub fn sample_at(
     height: usize,
 ) -> f32
     requires { ⌜ PlaneFits (now raw) pitch width height × (across .first < width) × (across .second < width) × (down .first < height) × (down .second < height) ⌝ }
-    ensures { λ r. ⌜ r ≡ sampledAt (record { bytes = now (raw .entry); pitch = pitch }) across down ⌝ }
+    ensures { λ r. ⌜ r ≡ sampledAt (planeOf (now (raw .entry)) pitch) across down ⌝ }
 {
     let upper = sample_row(raw, pitch, across, down.first, width, height);
     let lower = sample_row(raw, pitch, across, down.second, width, height);

@@ -8,16 +8,16 @@ use lib.Ieee.{Float}
 use Rattle.rules.specs.Calls.{StatsCall}
 use Rattle.rules.specs.Refusals.{statsRefusal}
 use Rattle.rules.specs.Stats.{statsSums}
-use Rattle.stats.specs.Done.{Done}
+use Rattle.stats.specs.Answered.{StatsAnswered}
 
 pub refused : (c : StatsCall) (r : ℕ) → r ≡ statsRefusal c → (r ≡ 0 → ⊥)
-    → Done c (c .sums .luma) (c .sums .chroma .0) (c .sums .chroma .1) (record { number = r; count = 0 })
+    → StatsAnswered c (c .sums .luma) (c .sums .chroma .0) (c .sums .chroma .1) (record { number = r; count = 0 })
 refused c r e some =
     let t = ne-eqb r 0 some in
     record { answer = rw e; luma-is = rw (← e, t); chroma1-is = rw (← e, t); chroma2-is = rw (← e, t) }
 
 pub ran : (c : StatsCall) (luma chroma1 chroma2 : List Float) (r : ℕ) → r ≡ statsRefusal c → r ≡ 0
     → luma ≡ statsSums c .luma → chroma1 ≡ statsSums c .chroma .0 → chroma2 ≡ statsSums c .chroma .1
-    → Done c luma chroma1 chroma2 (record { number = 0; count = 0 })
+    → StatsAnswered c luma chroma1 chroma2 (record { number = 0; count = 0 })
 ran c luma chroma1 chroma2 r e z l c1 c2 =
     record { answer = rw (← e, z); luma-is = rw (← e, z) l; chroma1-is = rw (← e, z) c1; chroma2-is = rw (← e, z) c2 }

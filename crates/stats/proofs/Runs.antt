@@ -1,19 +1,25 @@
 -- A call of stats that is not refused can be run.
 -- Assumes nothing.
 use mathlib.Core.Path.{_≡_, refl}
+use mathlib.Core.List.{List, [], _∷_}
+use mathlib.Core.Logic.{inl, inr}
 use mathlib.Core.Bool.{Bool, true, _&&_}
-use Prim.Native.Nat.{ℕ, _*_, _≤_}
+use Prim.Native.Nat.{ℕ, _*_, _/_, _≤_}
 use native.Mathlib.Omega.{arith}
-use lib.ListN.{length}
-use Rattle.rules.specs.Forms.{Plane, Motion, each, area, shrunk}
+use lib.ListN.{length, getD}
+use lib.Ieee.{Float}
+use Rattle.rules.specs.Forms.{each, area, shrunk}
 use Rattle.rules.specs.Calls.{StatsCall}
-use Rattle.rules.specs.Domain.{isPitch, isPlane, motionLengths, motionNumbers}
+use Rattle.rules.specs.Domain.{sumsLength, chromaSumsLength, isPitch, isPlane, motionLengths, motionNumbers}
 use Rattle.rules.specs.Refusals.{statsRefusal}
 use Rattle.laws.proofs.Accepted.{row-right, both, Side, sizes-in, ratio-in, exact-in}
-use Rattle.motion.specs.declared.Grid.{Grid}
-use Rattle.motion.specs.Moves.{motionOf}
-use Rattle.gather.specs.Sums.{Gathers}
-use Rattle.limits.proofs.Accepted.{plane-in, moves-in}
+use Rattle.plane.specs.Slices.{Slices, slice, at}
+use Rattle.stats_gather.specs.declared.Task.{Task}
+use Rattle.stats_add.specs.Added.{SixOrTwo}
+use Rattle.stats_gather.specs.Sums.{Gathers, passOf, allAdded}
+use Rattle.stats_refuse.specs.declared.Numbers.{Numbers}
+use Rattle.stats_refuse.specs.Call.{planeAt, statsBy}
+use Rattle.motion_limits.proofs.Accepted.{plane-in, moves-in}
 
 -- each of two, or of four
 two : (a b : Bool) → (a && (b && true)) ≡ true → (a ≡ true) × (b ≡ true)
@@ -25,59 +31,73 @@ four a b c d e =
     let u = both b (c && (d && true)) (t .1) in
     ((t .0, u .0), two c d (u .1))
 
--- a pass over a plane of both frames
-abbrev pub Passes : (first second : Plane) → Motion → Grid → (size : ℕ × ℕ) → (ratio : ℕ) → Type 0
-Passes first second m g size ratio =
-    Gathers (first .bytes) (first .pitch) (second .bytes) (second .pitch) (m .forward .0) (m .forward .1) (m .backward .0) (m .backward .1) g (size .0) (size .1) ratio
+-- the pass over plane k of both frames
+abbrev pub onto : (first second : Slices ℕ) → (k : ℕ) → Slices ℕ
+onto first second k = at first k ∷ (at second k ∷ [])
 
--- what the three passes ask
-pub record Runs (s : StatsCall) (g : Grid) : Type 0 where
-  pub on-luma : Passes (s .pair .first .0) (s .pair .second .0) (s .pair .motion) g (s .size) 1
-  pub on-first : Passes (s .pair .first .1) (s .pair .second .1) (s .pair .motion) g (shrunk (s .size) (s .ratio)) (s .ratio)
-  pub on-second : Passes (s .pair .first .2) (s .pair .second .2) (s .pair .motion) g (shrunk (s .size) (s .ratio)) (s .ratio)
-  pub luma-long : length (s .sums .luma) ≡ 6 * area (s .size)
-  pub first-long : length (s .sums .chroma .0) ≡ 2 * area (shrunk (s .size) (s .ratio))
-  pub second-long : length (s .sums .chroma .1) ≡ 2 * area (shrunk (s .size) (s .ratio))
+abbrev pub task : Numbers → (k many : ℕ) → (size : ℕ × ℕ) → (ratio : ℕ) → Task
+task n k many size ratio =
+    record { many = many; pairs = n .pairs; width = size .0; height = size .1; ratio = ratio; first = getD (n .first) k 0; second = getD (n .second) k 0; grid = n .grid }
 
-module _ (s : StatsCall) (g : Grid) where
-  abbrev m : Motion
-  m = s .pair .motion
+-- a chroma plane's size by its numbers
+pub shrinks : (first second fields : Slices ℕ) (n : Numbers) (k across down : ℕ) (sums : List Float) → across ≡ n .width / n .ratio → down ≡ n .height / n .ratio
+    → let small = task n k 2 (across, down) (n .ratio) in let chromaSize = task n k 2 (shrunk (n .width, n .height) (n .ratio)) (n .ratio) in
+    allAdded small (passOf (onto first second k) fields small) sums ≡ allAdded chromaSize (passOf (onto first second k) fields chromaSize) sums
+shrinks first second fields n k across down sums a d = rw (a, d)
 
-  -- the call's motion is laid out by g
-  abbrev pub LaidBy : Type 0
-  LaidBy = m ≡ motionOf (m .forward .0) (m .forward .1) (m .backward .0) (m .backward .1) g
+module _ (luma chroma1 chroma2 : List Float) (first second fields : Slices ℕ) (n : Numbers) where
+  abbrev call : StatsCall
+  call = statsBy luma chroma1 chroma2 first second fields n
 
-  passing : LaidBy → (motionLengths m ≡ true) × (motionNumbers m ≡ true) → (first second : Plane) (size : ℕ × ℕ) (ratio : ℕ) → ratio ≤ 4 → Side (size .0) → Side (size .1)
-      → (isPitch (first .pitch) (size .0) ≡ true) × (isPitch (second .pitch) (size .0) ≡ true)
-      → (isPlane first size ≡ true) × (isPlane second size ≡ true) → Passes first second m g size ratio
-  passing laid t first second size ratio few wide tall p l =
+  abbrev size : ℕ × ℕ
+  size = (n .width, n .height)
+
+  abbrev chromaSize : ℕ × ℕ
+  chromaSize = shrunk size (n .ratio)
+
+  -- what the three passes ask
+  pub record Runs : Type 0 where
+    pub on-luma : Gathers (onto first second 0) fields (task n 0 6 size 1)
+    pub on-first : Gathers (onto first second 1) fields (task n 1 2 chromaSize (n .ratio))
+    pub on-second : Gathers (onto first second 2) fields (task n 2 2 chromaSize (n .ratio))
+    pub luma-long : length luma ≡ 6 * area size
+    pub first-long : length chroma1 ≡ 2 * area chromaSize
+    pub second-long : length chroma2 ≡ 2 * area chromaSize
+
+  passing : (motionLengths (call .pair .motion) ≡ true) × (motionNumbers (call .pair .motion) ≡ true)
+      → (k many : ℕ) (size : ℕ × ℕ) (ratio : ℕ) → SixOrTwo many → ratio ≤ 4 → Side (size .0) → Side (size .1)
+      → (isPitch (getD (n .first) k 0) (size .0) ≡ true) × (isPitch (getD (n .second) k 0) (size .0) ≡ true)
+      → (isPlane (planeAt first (n .first) k) size ≡ true) × (isPlane (planeAt second (n .second) k) size ≡ true)
+      → Gathers (onto first second k) fields (task n k many size ratio)
+  passing t k many size ratio kind few wide tall p l =
       record {
-        first-fits = plane-in (first .bytes) (first .pitch) (size .0) (size .1) wide tall (p .0) (l .0);
-        second-fits = plane-in (second .bytes) (second .pitch) (size .0) (size .1) wide tall (p .1) (l .1);
-        moves = moves-in _ _ _ _ g ratio few (rw laid at (t .0)) (rw laid at (t .1));
+        first-fits = plane-in (slice first k) (getD (n .first) k 0) (size .0) (size .1) wide tall (p .0) (l .0);
+        second-fits = plane-in (slice second k) (getD (n .second) k 0) (size .0) (size .1) wide tall (p .1) (l .1);
+        moves = moves-in fields (n .grid) ratio few (t .0) (t .1);
+        kind = kind;
       }
 
-  pub runs : statsRefusal s ≡ 0 → LaidBy → Runs s g
+  pub runs : statsRefusal call ≡ 0 → Runs
   unfolding statsRefusal each
-  runs e laid =
+  runs e =
+      let s = call in
+      let m = s .pair .motion in
       let ok = row-right _ refl e in
       let t : (motionLengths m ≡ true) × (motionNumbers m ≡ true) = (ok 7 _ refl, ok 8 _ refl) in
       let f = s .pair .first in
       let z = s .pair .second in
-      let size = s .size in
-      let half = shrunk size (s .ratio) in
       let sides = sizes-in size (ok 0 _ refl) in
       let part = ratio-in size (s .ratio) sides (ok 1 _ refl) in
       let p = two (isPitch (f .0 .pitch) (size .0)) (isPitch (z .0 .pitch) (size .0)) (ok 2 _ refl) in
       let l = two (isPlane (f .0) size) (isPlane (z .0) size) (ok 4 _ refl) in
-      let q = four (isPitch (f .1 .pitch) (half .0)) (isPitch (f .2 .pitch) (half .0)) (isPitch (z .1 .pitch) (half .0)) (isPitch (z .2 .pitch) (half .0))
+      let q = four (isPitch (f .1 .pitch) (chromaSize .0)) (isPitch (f .2 .pitch) (chromaSize .0)) (isPitch (z .1 .pitch) (chromaSize .0)) (isPitch (z .2 .pitch) (chromaSize .0))
       (ok 3 _ refl) in
-      let k = four (isPlane (f .1) half) (isPlane (f .2) half) (isPlane (z .1) half) (isPlane (z .2) half) (ok 5 _ refl) in
-      let long = exact-in 6 (s .sums .luma) (s .sums .chroma) size (s .ratio) (ok 6 _ refl) in
+      let k = four (isPlane (f .1) chromaSize) (isPlane (f .2) chromaSize) (isPlane (z .1) chromaSize) (isPlane (z .2) chromaSize) (ok 5 _ refl) in
+      let long = exact-in (s .sums .luma) (s .sums .chroma) (sumsLength size, chromaSumsLength size (s .ratio)) (ok 6 _ refl) in
       record {
-        on-luma = passing laid t (f .0) (z .0) size 1 (omega arith) (sides .0) (sides .1) p l;
-        on-first = passing laid t (f .1) (z .1) half (s .ratio) (part .few .1) (part .across) (part .down) (q .0 .0, q .1 .0) (k .0 .0, k .1 .0);
-        on-second = passing laid t (f .2) (z .2) half (s .ratio) (part .few .1) (part .across) (part .down) (q .0 .1, q .1 .1) (k .0 .1, k .1 .1);
+        on-luma = passing t 0 6 size 1 (inl refl) (omega arith) (sides .0) (sides .1) p l;
+        on-first = passing t 1 2 chromaSize (s .ratio) (inr refl) (part .few .1) (part .across) (part .down) (q .0 .0, q .1 .0) (k .0 .0, k .1 .0);
+        on-second = passing t 2 2 chromaSize (s .ratio) (inr refl) (part .few .1) (part .across) (part .down) (q .0 .1, q .1 .1) (k .0 .1, k .1 .1);
         luma-long = long .0;
         first-long = long .1;
         second-long = long .2;

@@ -4,54 +4,82 @@ ghost use mathlib.Core.Path.{_≡_};
 ghost use mathlib.Core.Bool.{_&&_, true};
 ghost use Rattle.rules.specs.Domain.{isPitch, isPlane};
 ghost use Rattle.rules.specs.Refusals.{statsRefusal};
-ghost use Rattle.motion.specs.Moves.{motionOf};
-ghost use Rattle.stats_refuse.specs.Call.{plane, callOf};
+ghost use Rattle.calls.specs.Lent.{planeOf};
+ghost use Rattle.stats_refuse.specs.Call.{fourPlanes, statsBy};
 
-// The pitches of two planes, or of four.
-fn two_pitched(p: usize, q: usize, width: usize) -> bool
-    ensures { λ r. ⌜ r ≡ (isPitch p width && (isPitch q width && true)) ⌝ }
-{
-    limits::each_of_two(plane::pitched(p, width), plane::pitched(q, width))
+// The numbers of a call: the pairs before, luma's size and the ratio, the pitches of each frame's
+// planes, and what the motion is laid out by.
+pub struct Numbers {
+    pub pairs: usize,
+    pub width: usize,
+    pub height: usize,
+    pub ratio: usize,
+    pub first: [usize; 3],
+    pub second: [usize; 3],
+    pub grid: Grid,
 }
 
-fn four_pitched(p: usize, q: usize, s: usize, t: usize, width: usize) -> bool
-    ensures { λ r. ⌜ r ≡ (isPitch p width && (isPitch q width && (isPitch s width && (isPitch t width && true)))) ⌝ }
+// The pitches of two planes.
+fn two_pitched(one: usize, other: usize, width: usize) -> bool
+    ensures { λ r. ⌜ r ≡ (isPitch one width && (isPitch other width && true)) ⌝ }
+{
+    motion_limits::each_of_two(plane::pitched(one, width), plane::pitched(other, width))
+}
+
+// And of four.
+fn four_pitched(one: usize, two: usize, three: usize, four: usize, width: usize) -> bool
+    ensures { λ r. ⌜ r ≡ (isPitch one width && (isPitch two width && (isPitch three width && (isPitch four width && true)))) ⌝ }
 {
     plane::both(
-        plane::pitched(p, width),
-        plane::both(plane::pitched(q, width), two_pitched(s, t, width)),
+        plane::pitched(one, width),
+        plane::both(plane::pitched(two, width), two_pitched(three, four, width)),
     )
 }
 
-// The lengths of two planes, or of four.
-fn two_planed(a: &[u8], p: usize, b: &[u8], q: usize, width: usize, height: usize) -> bool
-    ensures { λ r. ⌜ r ≡ (isPlane (plane (now (a .entry)) p) (width, height) && (isPlane (plane (now (b .entry)) q) (width, height) && true)) ⌝ }
-{
-    limits::each_of_two(
-        plane::planed(a.len(), p, width, height),
-        plane::planed(b.len(), q, width, height),
-    )
-}
-
-fn four_planed(
-    a: &[u8],
-    p: usize,
-    b: &[u8],
-    q: usize,
-    c: &[u8],
-    s: usize,
-    d: &[u8],
-    t: usize,
+// The lengths of two planes.
+fn two_planed(
+    first: &[u8],
+    first_pitch: usize,
+    second: &[u8],
+    second_pitch: usize,
     width: usize,
     height: usize,
 ) -> bool
-    ensures { λ r. ⌜ r ≡ (isPlane (plane (now (a .entry)) p) (width, height) && (isPlane (plane (now (b .entry)) q) (width, height) && (isPlane (plane (now (c .entry)) s) (width, height) && (isPlane (plane (now (d .entry)) t) (width, height) && true)))) ⌝ }
+    ensures { λ r. ⌜ r ≡ (isPlane (planeOf (now (first .entry)) «first_pitch») (width, height) && (isPlane (planeOf (now (second .entry)) «second_pitch») (width, height) && true)) ⌝ }
 {
-    let first = plane::planed(a.len(), p, width, height);
-    let second = plane::planed(b.len(), q, width, height);
+    motion_limits::each_of_two(
+        plane::planed(first.len(), first_pitch, width, height),
+        plane::planed(second.len(), second_pitch, width, height),
+    )
+}
+
+// And of the chroma planes of both frames.
+fn four_planed(
+    first: [&[u8]; 3],
+    second: [&[u8]; 3],
+    numbers: Numbers,
+    width: usize,
+    height: usize,
+) -> bool
+    ensures { λ r. ⌜ r ≡ fourPlanes (first .entry) (second .entry) numbers (width, height) ⌝ }
+{
+    let first_pitches = numbers.first;
+    let second_pitches = numbers.second;
+    let one = plane::planed(first[1].len(), first_pitches[1], width, height);
+    let two = plane::planed(first[2].len(), first_pitches[2], width, height);
     plane::both(
-        first,
-        plane::both(second, two_planed(c, s, d, t, width, height)),
+        one,
+        plane::both(
+            two,
+            two_planed(
+                second[1],
+                second_pitches[1],
+                second[2],
+                second_pitches[2],
+                width,
+                height,
+            ),
+        ),
     )
 }
 
@@ -60,49 +88,39 @@ pub fn stats_refusal(
     luma: &[f32],
     chroma1: &[f32],
     chroma2: &[f32],
-    pairs: usize,
-    width: usize,
-    height: usize,
-    ratio: usize,
-    first0: &[u8],
-    pitch0: usize,
-    first1: &[u8],
-    pitch1: usize,
-    first2: &[u8],
-    pitch2: usize,
-    second0: &[u8],
-    pitch3: usize,
-    second1: &[u8],
-    pitch4: usize,
-    second2: &[u8],
-    pitch5: usize,
-    forward_x: &[u16],
-    forward_y: &[u16],
-    backward_x: &[u16],
-    backward_y: &[u16],
-    grid: Grid,
+    first: [&[u8]; 3],
+    second: [&[u8]; 3],
+    fields: [&[u16]; 4],
+    numbers: Numbers,
 ) -> u8
-    ensures { λ r. ⌜ r ≡ statsRefusal (callOf (now (luma .entry)) (now (chroma1 .entry)) (now (chroma2 .entry)) pairs width height ratio (plane (now (first0 .entry)) pitch0) (plane (now (first1 .entry)) pitch1) (plane (now (first2 .entry)) pitch2) (plane (now (second0 .entry)) pitch3) (plane (now (second1 .entry)) pitch4) (plane (now (second2 .entry)) pitch5) (motionOf (now («forward_x» .entry)) (now («forward_y» .entry)) (now («backward_x» .entry)) (now («backward_y» .entry)) grid)) ⌝ }
+    ensures { λ r. ⌜ r ≡ statsRefusal (statsBy (now (luma .entry)) (now (chroma1 .entry)) (now (chroma2 .entry)) (first .entry) (second .entry) (fields .entry) numbers) ⌝ }
 {
+    let width = numbers.width;
+    let height = numbers.height;
+    let ratio = numbers.ratio;
+    let first_pitches = numbers.first;
+    let second_pitches = numbers.second;
     let across = plane::divided(width, ratio);
     let down = plane::divided(height, ratio);
-    let sizes = plane::both(plane::sized(width), plane::sized(height));
+    let sizes = plane::sizes(width, height);
     let divided = plane::ratioed(ratio, width, height);
-    let luma_pitches = two_pitched(pitch0, pitch3, width);
-    let chroma_pitches = four_pitched(pitch1, pitch2, pitch4, pitch5, across);
-    let luma_planes = two_planed(first0, pitch0, second0, pitch3, width, height);
-    let chroma_planes = four_planed(
-        first1,
-        pitch1,
-        first2,
-        pitch2,
-        second1,
-        pitch4,
-        second2,
-        pitch5,
+    let luma_pitches = two_pitched(first_pitches[0], second_pitches[0], width);
+    let chroma_pitches = four_pitched(
+        first_pitches[1],
+        first_pitches[2],
+        second_pitches[1],
+        second_pitches[2],
         across,
-        down,
     );
+    let luma_planes = two_planed(
+        first[0],
+        first_pitches[0],
+        second[0],
+        second_pitches[0],
+        width,
+        height,
+    );
+    let chroma_planes = four_planed(first, second, numbers, across, down);
     let sums = plane::exact_planes(
         luma.len(),
         chroma1.len(),
@@ -112,17 +130,12 @@ pub fn stats_refusal(
         height,
         ratio,
     );
-    let fields = limits::motion_lengths(
-        forward_x.len(),
-        forward_y.len(),
-        backward_x.len(),
-        backward_y.len(),
-        grid,
-    );
-    let numbers = limits::motion_numbers(grid);
-    let after_lengths = plane::unless(5, numbers, plane::unless(7, pairs <= 11, 0));
-    let lengths = plane::unless(4, sums, plane::unless(4, fields, after_lengths));
-    let planes = plane::unless(4, luma_planes, plane::unless(4, chroma_planes, lengths));
+    let grid = numbers.grid;
+    let lengths = motion_limits::motion_lengths(fields, grid);
+    let limits = motion_limits::motion_numbers(grid);
+    let after_lengths = plane::unless(5, limits, plane::unless(7, numbers.pairs <= 11, 0));
+    let lent = plane::unless(4, sums, plane::unless(4, lengths, after_lengths));
+    let planes = plane::unless(4, luma_planes, plane::unless(4, chroma_planes, lent));
     let pitches = plane::unless(3, luma_pitches, plane::unless(3, chroma_pitches, planes));
     plane::unless(1, sizes, plane::unless(2, divided, pitches))
 }

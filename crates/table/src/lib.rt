@@ -7,10 +7,14 @@ ghost use Rattle.rules.specs.Forms.{cells as cellsOf};
 ghost use Rattle.table.specs.Models.{modelPut};
 
 // How many cells lie along a side.
-pub fn cells(n: usize) -> usize
-    ensures { λ r. ⌜ r ≡ cellsOf n ⌝ }
+pub fn cells(size: usize) -> usize
+    ensures { λ r. ⌜ r ≡ cellsOf size ⌝ }
 {
-    if n % 8 == 0 { n / 8 } else { n / 8 + 1 }
+    if size % 8 == 0 {
+        size / 8
+    } else {
+        size / 8 + 1
+    }
 }
 
 // A cover of this length has a byte for each cell.

@@ -1,6 +1,8 @@
--- Parameters that a function passes on and has nothing of at exit: what is had of them (`Denote/Triple/Walked.antt`'s `Stay`), and the law for it.
--- Such a parameter is a number, a struct of numbers, a `&` or a view: nothing is said of it at exit, which `refl` shows of each.
---     droppeds     for a list of parameters.        go-dropped     the law, from a `refl` for each
+-- Parameters that a function passes on and has nothing of at exit: what is had of them (`Denote/Triple/Walked.antt`'s
+-- `Stay`), and the law for it. Such a parameter is a number, a struct of numbers, a `&` or a view: nothing is said of
+-- it at exit, which `refl` shows of each.
+--     droppeds     for a list of parameters
+--     go-dropped   the law, from a `refl` for each
 --     others       the parameters after the first
 -- The law takes `Given`. The rest assumes nothing.
 use Prim.Native.Nat.{ℕ}

@@ -1,5 +1,5 @@
--- A call of `view::new`, as a walk makes it: what it is passed and asks, what is known of the view that it returns, and that its machine value may stand in a local.
--- `asks` and `typed` assume `Given`. The rest assumes nothing.
+-- A call of `view::new`, as a walk makes it: what it is passed and asks, what is known of the view that it returns, and
+-- that its machine value may stand in a local. `asks` and `typed` assume `Given`. The rest assumes nothing.
 use mathlib.Core.Path.{_≡_}
 use mathlib.Core.List.{[], _∷_}
 use lib.Dec.{T as Holds}

@@ -5,6 +5,8 @@ use std::io;
 use std::path::Path;
 use std::time::{SystemTime, UNIX_EPOCH};
 
+#[cfg(before)]
+use super::before::Compared;
 use super::Measured;
 
 pub const HEAD: &str = "\
@@ -33,6 +35,30 @@ pub fn growth(call: &str, workload: &str, (small, large): (f64, f64)) -> String 
     format!(
         "| {call} | {workload} | {small:.2} | {large:.2} | {:.2} |\n",
         large / small
+    )
+}
+
+#[cfg(before)]
+pub const BEFORE_HEAD: &str = "\
+| Call | Workload | Size | Before, ns per pixel | Now, ns per pixel | Now / before, shortest turns | Median of rounds | Middle half of rounds | Now / Rust | Rounds |
+|---|---|---|---|---|---|---|---|---|---|
+";
+
+/// A workload on two libraries: by the shortest turns, and by the rounds, with the spread of those.
+#[cfg(before)]
+pub fn before_row(call: &str, workload: &str, size: (usize, usize), compared: &Compared) -> String {
+    format!(
+        "| {call} | {workload} | {}×{} | {:.3} | {:.3} | {:.3} | {:.3} | {:.3} to {:.3} | {:.2} | {} |\n",
+        size.0,
+        size.1,
+        compared.before,
+        compared.now,
+        compared.of_shortest(),
+        compared.ratio(50),
+        compared.ratio(25),
+        compared.ratio(75),
+        compared.now / compared.rust,
+        compared.rounds(),
     )
 }
 

@@ -53,7 +53,7 @@ impl Part {
         }
     }
 
-    fn lent(&self) -> crate::Part<'_> {
+    pub fn lent(&self) -> crate::Part<'_> {
         crate::Part {
             luma: &self.luma,
             chroma: [&self.chroma1, &self.chroma2],

@@ -12,14 +12,14 @@ assembled-requires : tie.Need-assembled-requires
 assembled-requires c κs =
     let g = c .before .before .before in
     let t = g .before in
-    rw (g .grid .ensures) (ready _ _ _ _ _ _ _ _ (sym (t .before .refusal .ensures) ∙ t .if1 .left))
+    rw (g .sizes-of .ensures) (ready _ _ _ _ _ _ _ _ (sym (t .before .refusal .ensures) ∙ t .if1 .left))
 
 returns-2 : tie.Need-returns-2
 returns-2 c =
     let d = c .before .before .before in
     let g = d .before .before .before .before in
     let t = g .before in
-    ran _ _ _ _ _ _ _ _ (sym (t .before .refusal .ensures) ∙ t .if1 .left) _ _ _ _ (rw (g .grid .ensures) at (d .assembled .ensures))
+    ran _ _ _ _ _ _ _ _ (sym (t .before .refusal .ensures) ∙ t .if1 .left) _ _ _ _ (rw (g .sizes-of .ensures) at (d .assembled .ensures))
 
 pub assemble-spec : {M : Type 1} → statement M
 assemble-spec =

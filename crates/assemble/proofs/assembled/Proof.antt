@@ -7,7 +7,8 @@ use Rattle.assemble.proofs.assembled.Tie as tie
 store-requires : tie.Need-store-requires
 store-requires c κs =
     let s = c .before .before .before .before .before .before .before in
-    (record { formed = s .pre .0; models-long = s .pre .1; cover-long = s .pre .2; fits = sym (c .before .before .before .before .totals-fit .ensures) ∙ c .before .before .before .if1 .taken }, s .pre .3)
+    let then = c .before .before .before in
+    (record { formed = s .pre .0; models-long = s .pre .1; cover-long = s .pre .2; fits = sym (then .before .totals-fit .ensures) ∙ then .if1 .taken }, s .pre .3)
 
 returns : tie.Need-returns
 returns c =

@@ -6,7 +6,21 @@ use Rattle.assemble.proofs.refusal.Tie as tie
 
 returns : tie.Need-returns
 unfolding firstFitting assembleTable
-returns c = rw (c .unless5 .ensures, c .before .unless4 .ensures, c .before .before .unless3 .ensures, c .before .before .before .unless2 .ensures, c .before .before .before .before .unless .ensures, c .before .before .before .before .before .exact-planes .ensures, c .before .before .before .before .before .before .exact-cover .ensures, c .before .before .before .before .before .before .before .exact .ensures, c .before .before .before .before .before .before .before .before .ratioed .ensures, c .before .before .before .before .before .before .before .before .before .sizes .ensures)
+returns c =
+    let tests = c .before .before .before .before .before in
+    let lengths = tests .before .before in
+    rw (
+      c .unless5 .ensures,
+      c .before .unless4 .ensures,
+      c .before .before .unless3 .ensures,
+      c .before .before .before .unless2 .ensures,
+      c .before .before .before .before .unless .ensures,
+      tests .exact-planes .ensures,
+      tests .before .exact-cover .ensures,
+      lengths .exact .ensures,
+      lengths .before .ratioed .ensures,
+      lengths .before .before .sizes .ensures,
+    )
 
 pub refusal-spec : {M : Type 1} → statement M
 refusal-spec =

@@ -16,6 +16,14 @@ Inv-loop cells₀ width n row₀ cells row =
 abbrev μ-loop : tie.MeasureT-loop
 μ-loop cells₀ width n row₀ cells row = row
 
+-- where the function starts
+abbrev start : tie.At-loop Inv-loop μ-loop → tie.Start Inv-loop μ-loop
+start c = c .before .before
+
+-- where a turn of the loop starts
+abbrev turn : tie.After-slice-known2 Inv-loop μ-loop → tie.At-loop Inv-loop μ-loop
+turn c = c .before .before .before .before .before .before
+
 loop-holds : tie.Need-loop-holds Inv-loop μ-loop
 loop-holds c = (omega arith, begins _ _ _ (omega arith) (c .before .pre .1) .1, passed-none _ _ _)
 
@@ -33,15 +41,15 @@ sub-ahead c =
 
 row-back-requires : tie.Need-row-back-requires Inv-loop μ-loop
 row-back-requires c κs =
-    let a = c .before .before .before .before .before in
+    let a = start (c .before .before .before) in
     let l = c .before .before .before .loop in
     let b = row-before (a .args .width) (l .row) (a .pre .0) (omega arith) (l .inv .1) in
     rw (c .before .ahead .ensures, l .inv .2 .same, a .pre .1) (rows-back (a .args .width) (length (a .args .cells .now)) (l .row - a .args .width) (a .pre .0) (b .1) (omega arith))
 
 loop-again : tie.Need-loop-again Inv-loop μ-loop
 loop-again c =
-    let a = c .before .before .before .before .before .before .before .before in
-    let l = c .before .before .before .before .before .before .loop in
+    let a = start (turn c) in
+    let l = turn c .loop in
     let b = row-before (a .args .width) (l .row) (a .pre .0) (omega arith) (l .inv .1) in
     let e : l .row - a .args .width + a .args .width ≡ l .row = omega arith in (
       omega arith,

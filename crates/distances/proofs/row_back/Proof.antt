@@ -1,4 +1,5 @@
--- `distances::row_back` meets its contract. The invariant: the row is passed back to column x, and what is beside it is at hand. Assumes nothing.
+-- `distances::row_back` meets its contract. The invariant: the row is passed back to column x, and what is beside it is
+-- at hand. Assumes nothing.
 use mathlib.Core.Path.{_≡_, refl, sym}
 use Prim.Native.Nat.{_+_, _-_, _≤_, min}
 use native.Mathlib.Nat.{add-zero}
@@ -20,12 +21,16 @@ Inv-loop cells₀ row down width right₀ beside₀ x₀ cells right beside x =
 abbrev μ-loop : tie.MeasureT-loop
 μ-loop cells₀ row down width right₀ beside₀ x₀ cells right beside x = x
 
+-- where the function starts
+abbrev start : tie.At-loop Inv-loop μ-loop → tie.Start Inv-loop μ-loop
+start c = c .before .before .before
+
 loop-holds : tie.Need-loop-holds Inv-loop μ-loop
 loop-holds c = (omega arith, omega arith, refl, passed-none _ _ _)
 
 loop-again : tie.Need-loop-again Inv-loop μ-loop
 loop-again c =
-    let a = c .before .before .before .before .before .before .before in
+    let a = start (c .before .before .before .before) in
     let l = c .before .before .before .before .loop in
     let e = l .inv .3 .same in
     let f : l .x - 1 + 1 ≡ l .x = omega arith in (

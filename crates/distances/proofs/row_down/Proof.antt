@@ -1,4 +1,5 @@
--- `distances::row_down` meets its contract. The invariant: the row is passed up to column x, and what is beside it is at hand. Assumes nothing.
+-- `distances::row_down` meets its contract. The invariant: the row is passed up to column x, and what is beside it is
+-- at hand. Assumes nothing.
 use mathlib.Core.Path.{_≡_, refl, sym}
 use Prim.Native.Nat.{_+_, _-_, _≤_}
 use native.Mathlib.Omega.{arith}
@@ -18,13 +19,17 @@ Inv-loop cells₀ row up width left₀ beside₀ x₀ cells left beside x =
 abbrev μ-loop : tie.MeasureT-loop
 μ-loop cells₀ row up width left₀ beside₀ x₀ cells left beside x = width - x
 
+-- where the function starts
+abbrev start : tie.At-loop Inv-loop μ-loop → tie.Start Inv-loop μ-loop
+start c = c .before .before .before
+
 loop-holds : tie.Need-loop-holds Inv-loop μ-loop
 loop-holds c =
     (omega arith, omega arith, rw add-zero refl, rw add-zero (passed-none _ _ _))
 
 loop-again : tie.Need-loop-again Inv-loop μ-loop
 loop-again c =
-    let a = c .before .before .before .before .before .before .before in
+    let a = start (c .before .before .before .before) in
     let l = c .before .before .before .before .loop in
     let e = l .inv .3 .same in (
       omega arith,

@@ -11,10 +11,10 @@ use Rattle.empty.proofs.rest_unmarked.Statement.{statement}
 use Rattle.empty.proofs.rest_unmarked.Tie as tie
 
 abbrev Inv-loop : tie.InvT-loop
-Inv-loop p b bb y width from before none₀ x₀ none x = (none ≡ rowUnmarked (celled p b bb) y x) × (x ≤ width)
+Inv-loop p numbers bytes y width from before none₀ x₀ none x = (none ≡ rowUnmarked (celled p numbers bytes) y x) × (x ≤ width)
 
 abbrev μ-loop : tie.MeasureT-loop
-μ-loop p b bb y width from before none₀ x₀ none x = width - x
+μ-loop p numbers bytes y width from before none₀ x₀ none x = width - x
 
 loop-holds : tie.Need-loop-holds Inv-loop μ-loop
 loop-holds c = (c .before .pre .2, c .before .pre .1)

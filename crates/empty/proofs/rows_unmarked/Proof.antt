@@ -14,10 +14,10 @@ use Rattle.empty.proofs.rows_unmarked.Statement.{statement}
 use Rattle.empty.proofs.rows_unmarked.Tie as tie
 
 abbrev Inv-loop : tie.InvT-loop
-Inv-loop p b bb width height y₀ y = (true ≡ rowsUnmarked (celled p b bb) width y) × (y ≤ height)
+Inv-loop p numbers bytes width height y₀ y = (true ≡ rowsUnmarked (celled p numbers bytes) width y) × (y ≤ height)
 
 abbrev μ-loop : tie.MeasureT-loop
-μ-loop p b bb width height y₀ y = height - y
+μ-loop p numbers bytes width height y₀ y = height - y
 
 loop-holds : tie.Need-loop-holds Inv-loop μ-loop
 unfolding turns all
@@ -27,7 +27,7 @@ returns : tie.Need-returns Inv-loop μ-loop
 returns c =
     let read = c .before in
     let a = read .before .before .before .before .args in
-    sym (all-false _ (read .before .before .loop .y) (λ (y : ℕ). rowUnmarked (celled (a .p) (a .b .now) (a .bb .now)) y (a .width)) (read .before .loop-test .taken) (sym (read .row-unmarked .ensures) ∙ not-true _ (c .if1 .taken)))
+    sym (all-false _ (read .before .before .loop .y) (λ (y : ℕ). rowUnmarked (celled (a .plan) (a .numbers .now) (a .bytes .now)) y (a .width)) (read .before .loop-test .taken) (sym (read .row-unmarked .ensures) ∙ not-true _ (c .if1 .taken)))
 
 loop-again : tie.Need-loop-again Inv-loop μ-loop
 unfolding all

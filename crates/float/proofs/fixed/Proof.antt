@@ -10,7 +10,7 @@ use lib.Ieee.{Float, fin, ofBits, lt, neg, mul, binary32}
 use mir.Syntax.{w16}
 use mir.Val.{toZ, ofZ, SFits}
 use mir.Facts.{toZ-pos, toZ-ofZ}
-use Rattle.rules.specs.Float.{stored as fixedOf, storedOf, negative}
+use Rattle.rules.specs.Float.{stored, roundedShort, negative}
 use Rattle.float.specs.Nearest.{sizeOf}
 use Rattle.laws.proofs.Value.{T-of}
 use Rattle.laws.proofs.Order.{lt-trans-float}
@@ -38,8 +38,8 @@ Y value scale = mul binary32 value scale
 
 -- the branch above 0, and the one below
 module _ (y : Float) (a : lt (fin false 0 (pos 0)) y ≡ true) (b : lt y (fin false 32767 (pos 0)) ≡ true) (n : ℕ) (e : n ≡ sizeOf y) where
-  up-is : toZ w16 n ≡ storedOf y
-  unfolding storedOf
+  up-is : toZ w16 n ≡ roundedShort y
+  unfolding roundedShort
   up-is =
       let i = inside 32767 y a b in
       toZ-pos w16 (small y n i e) ∙ ap pos e ∙ sym (simp (i .sign, i .same))
@@ -51,8 +51,8 @@ module _ (y : Float) (a : lt y (fin false 0 (pos 0)) ≡ true) (b : lt (fin true
   down-small : n < 2 ^ 15
   down-small = small (neg y) n down-in e
 
-  down-is : negℤ (pos n) ≡ storedOf y
-  unfolding storedOf
+  down-is : negℤ (pos n) ≡ roundedShort y
+  unfolding roundedShort
   down-is = ap (λ (k : ℕ). negℤ (pos k)) (e ∙ sym (down-in .same) ∙ size-neg 32767 y) ∙ sym (simp (below-origin y a))
 
 nearest-requires : tie.Need-nearest-requires
@@ -86,18 +86,18 @@ sub-result c =
     subst (λ (z : ℤ). SFits w16 z) (sym (minus n h)) (minus-fits n h)
 
 returns : tie.Need-returns
-unfolding ofBits fixedOf storedOf
+unfolding ofBits stored roundedShort
 returns c =
     up-is (Y (c .before .before .before .args .value) (c .before .before .before .args .scale)) (c .before .before .if1 .taken) (c .before .if2 .taken) (c .nearest .result) (c .nearest .ensures)
 
 returns-2 : tie.Need-returns-2
-unfolding ofBits fixedOf storedOf
+unfolding ofBits stored roundedShort
 returns-2 c =
     let p = past 32767 (Y (c .before .before .args .value) (c .before .before .args .scale)) (c .before .if1 .taken) (c .if2 .left) in
     sym (simp (p .sign, p .same))
 
 returns-3 : tie.Need-returns-3
-unfolding ofBits neg fixedOf storedOf
+unfolding ofBits neg stored roundedShort
 returns-3 c =
     let y = Y (c .before .before .before .before .args .value) (c .before .before .before .before .args .scale) in
     let n = c .nearest2 .result in
@@ -107,14 +107,14 @@ returns-3 c =
     ap (λ (z : ℤ). toZ w16 (ofZ w16 z)) (minus n h) ∙ toZ-ofZ (minus-fits n h) ∙ down-is y a b n (c .nearest2 .ensures)
 
 returns-4 : tie.Need-returns-4
-unfolding ofBits neg fixedOf storedOf
+unfolding ofBits neg stored roundedShort
 returns-4 c =
     let y = Y (c .before .before .before .args .value) (c .before .before .before .args .scale) in
     let p = past 32767 (neg y) (flip-origin y (c .before .if3 .taken)) (sym (flip-end 32767 y) ∙ c .if4 .left) in
     sym (simp (below-origin y (c .before .if3 .taken), sym (size-neg 32767 y) ∙ p .same))
 
 returns-5 : tie.Need-returns-5
-unfolding ofBits fixedOf storedOf
+unfolding ofBits stored roundedShort
 returns-5 c =
     let y = Y (c .before .before .args .value) (c .before .before .args .scale) in
     sym (nought (negative y) (at-origin 32767 y (c .before .if1 .left) (c .if3 .left)))

@@ -1,4 +1,5 @@
--- `float::nearest` meets its contract: x + x is exact, and half of it, cut with one more, is x rounded away. Assumes nothing.
+-- `float::nearest` meets its contract: x + x is exact, and half of it, cut with one more, is x rounded away. Assumes
+-- nothing.
 use mathlib.Core.Path.{sym, subst, ap, _∙_}
 use Prim.Native.Nat.{ℕ, _+_, _/_}
 use native.Mathlib.Omega.{arith}
@@ -12,7 +13,7 @@ known : (c : tie.Start) → Halved (c .args .x) (add binary32 (c .args .x) (c .a
 known c = halved (c .args .x) (subst T (sym (c .good .0 .1)) tt) (c .pre .0) (c .pre .1)
 
 cut-low-requires : tie.Need-cut-low-requires
-cut-low-requires c κs = (known c .above, known c .under)
+cut-low-requires c κs = (known c .sign, known c .under)
 
 add-result : tie.Need-add-result
 add-result c =

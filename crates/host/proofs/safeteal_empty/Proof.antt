@@ -9,4 +9,7 @@ returns : tie.Need-returns
 returns c = c .reply .ensures ∙ ap replyWord (c .before .empty .ensures)
 
 pub safeteal-empty-spec : {M : Type 1} → statement M
-safeteal-empty-spec = tie.close (tie.spec (λ c κs. search needs) (λ c κs. search needs) returns)
+safeteal-empty-spec =
+    tie.close
+    (tie.spec (λ c. search needs) (λ c. search needs) (λ c. search needs) (λ c κs. search needs)
+    (λ c κs. search needs) returns)

@@ -3,7 +3,7 @@ use mathlib.Core.Path.{ap, _∙_}
 use borrow.Author.Needs.{needs}
 use Rattle.rules.specs.declared.Answer.{Answer}
 use Rattle.rules.specs.Fit.{freesWork}
-use Rattle.host.proofs.Answers.{alone}
+use Rattle.told.proofs.Answers.{alone}
 use Rattle.host.proofs.safeteal_fit.Statement.{statement}
 use Rattle.host.proofs.safeteal_fit.Tie as tie
 

@@ -1,6 +1,6 @@
 -- `host::safeteal_hold` meets its contract: the call's own. Assumes nothing.
 use borrow.Author.Needs.{needs}
-use Rattle.host.proofs.Answers.{alone}
+use Rattle.told.proofs.Answers.{alone}
 use Rattle.host.proofs.safeteal_hold.Statement.{statement}
 use Rattle.host.proofs.safeteal_hold.Tie as tie
 

@@ -1,7 +1,7 @@
 -- `host::safeteal_stats` meets its contract: the call's own. Assumes nothing.
 use borrow.Author.Needs.{needs}
-use mir.Facts.{toZ-ofZ}
-use Rattle.host.proofs.Answers.{alone}
+use Rattle.told.proofs.Answers.{alone}
+use Rattle.host.proofs.Back.{read-back, by-motion}
 use Rattle.host.proofs.safeteal_stats.Statement.{statement}
 use Rattle.host.proofs.safeteal_stats.Tie as tie
 
@@ -9,7 +9,8 @@ returns : tie.Need-returns
 returns c =
     let on = c .before .before .before .before .before .before .before in
     let s = on .before .before .before .before .before .before .before .before .before .before .before .before .before .before .before .before .before in
-    let d = rw (toZ-ofZ (s .fits .block-width), toZ-ofZ (s .fits .block-height), toZ-ofZ (s .fits .origin-x), toZ-ofZ (s .fits .origin-y), toZ-ofZ (s .fits .pel)) at (on .stats .ensures) in
+    let f = s .fits in
+    let d = by-motion _ _ (read-back _ _ _ _ _ _ (f .block-width) (f .block-height) (f .origin-x) (f .origin-y) (f .pel)) (on .stats .ensures) in
     record {
       told = alone _ (d .answer) (c .number .ensures);
       luma-left = d .luma-is;

@@ -13,8 +13,8 @@ use Rattle.motion.proofs.of_int.Tie as tie
 
 int-to-float-result : tie.Need-int-to-float-result
 int-to-float-result c =
-    let n = c .before .args .n in
-    subst (λ (z : ℤ). T (inFloat binary32 z)) (sym (toZ-ofZ w32 n (c .before .fits .n))) (in-float n (le-trans (c .before .pre) (lit≤ tt)))
+    let n = c .before .args .number in
+    subst (λ (z : ℤ). T (inFloat binary32 z)) (sym (toZ-ofZ w32 n (c .before .fits .number))) (in-float n (le-trans (c .before .pre) (lit≤ tt)))
 
 pub of-int-spec : {M : Type 1} → statement M
 of-int-spec = tie.close (tie.spec int-to-float-result (λ c. search needs))

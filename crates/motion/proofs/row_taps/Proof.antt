@@ -6,6 +6,10 @@ use Rattle.motion.proofs.Fields.{back, scaled}
 use Rattle.motion.proofs.row_taps.Statement.{statement}
 use Rattle.motion.proofs.row_taps.Tie as tie
 
+-- where the function starts
+abbrev start : tie.After-taps → tie.Start
+start c = c .before .before .before .before .before .before
+
 mul-of-size : tie.Need-mul-of-size
 mul-of-size c =
     let h = scaled (c .args .y) (c .args .ratio) (c .pre .1) (c .pre .0 .few) in
@@ -17,11 +21,12 @@ of-size-requires c κs = scaled (c .args .y) (c .args .ratio) (c .pre .1) (c .pr
 returns : tie.Need-returns
 unfolding rowTaps
 returns c =
-    let s = c .before .before .before .before .before .before in
+    let of-int = c .before .before .before in
+    let s = start c in
     let g = s .args .grid in
     let t = c .taps .ensures in
     record {
-      is = rw (t .is, c .before .of-int2 .ensures, c .before .before .before .of-int .ensures, c .before .before .before .before .before .of-size .ensures, back (g .«origin_y») (s .pre .0 .origins .1), back (g .«block_height») (s .pre .0 .blocks .1));
+      is = rw (t .is, c .before .of-int2 .ensures, of-int .of-int .ensures, of-int .before .before .of-size .ensures, back (g .«origin_y») (s .pre .0 .origins .1), back (g .«block_height») (s .pre .0 .blocks .1));
       first-in = t .first-in;
       second-in = t .second-in;
     }

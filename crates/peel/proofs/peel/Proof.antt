@@ -1,9 +1,15 @@
 -- `peel::peel` meets its contract. Assumes nothing.
-use mathlib.Core.Path.{sym, _∙_}
+use mathlib.Core.Path.{refl, sym, _∙_}
+use mathlib.Core.List.{[], _∷_}
 use borrow.Author.Needs.{needs}
+use Rattle.layer_lent.specs.Lent.{framed}
 use Rattle.peel.proofs.Calls.{refused, ran, peel-runs}
 use Rattle.peel.proofs.peel.Statement.{statement}
 use Rattle.peel.proofs.peel.Tie as tie
+
+-- where the function starts
+abbrev start : tie.After-rows-arg → tie.Start
+start c = c .before .before .before .before .before .before .before
 
 returns : tie.Need-returns
 returns c = refused _ _ _ _ _ (c .before .peel-refusal .ensures) (c .if1 .taken)
@@ -11,19 +17,19 @@ returns c = refused _ _ _ _ _ (c .before .peel-refusal .ensures) (c .if1 .taken)
 rows-requires : tie.Need-rows-requires
 rows-requires c κs =
     let tests = c .before .before in
-    let a = c .before .before .before .before .before .before .before .before .before .before .args in
+    let a = start c .args in
     let e = sym (tests .before .peel-refusal .ensures) ∙ tests .if1 .left in
-    rw (c .before .planned .ensures) (peel-runs (a .s) (a .l .now) (a .lb .now) (a .a .now) (a .ab .now) (a .b .now) (a .bb .now) (record { bytes = a .output .now; pitch = a .opitch }) (record { bytes = a .raw .now; pitch = a .pitch }) e)
+    rw (c .before .planned .ensures) (peel-runs (framed (a .shape) (a .pitch) (a .pitch)) (a .numbers) (a .bytes) (a .raw ∷ a .raw ∷ []) (a .output .now) refl e)
 
 returns-2 : tie.Need-returns-2
 returns-2 c =
     let plan = c .before .before .before .before in
     let tests = plan .before in
-    let a = c .before .before .before .before .before .before .before .before .before .before .before .before .before .args in
+    let a = start (c .before .before .before) .args in
     let e = sym (tests .before .peel-refusal .ensures) ∙ tests .if1 .left in
-    let f = peel-runs (a .s) (a .l .now) (a .lb .now) (a .a .now) (a .ab .now) (a .b .now) (a .bb .now) (record { bytes = a .output .now; pitch = a .opitch }) (record { bytes = a .raw .now; pitch = a .pitch }) e in
+    let f = peel-runs (framed (a .shape) (a .pitch) (a .pitch)) (a .numbers) (a .bytes) (a .raw ∷ a .raw ∷ []) (a .output .now) refl e in
     let d = rw (plan .planned .ensures) at (c .before .before .rows .ensures) in
-    ran _ _ _ _ _ _ _ _ _ (tests .before .peel-refusal .ensures) (tests .if1 .left) (f .0 .ready .sound .planned .tall .1) d
+    ran _ _ _ _ _ _ _ _ _ (tests .before .peel-refusal .ensures) (tests .if1 .left) (f .0 .sound .planned .tall .1) d
 
 pub peel-spec : {M : Type 1} → statement M
 peel-spec =

@@ -8,7 +8,10 @@ use Rattle.render.proofs.render_refusal.Tie as tie
 returns : tie.Need-returns
 unfolding renderRefusal firstFitting each
 returns c algo =
-    rw (c .frames-rows .ensures, c .before .unless2 .ensures, c .before .before .unless .ensures, c .before .before .before .time-row .ensures, c .before .before .before .before .motion-numbers .ensures, c .before .before .before .before .before .motion-lengths .ensures)
+    let rest = c .before in
+    let time = rest .before .before in
+    let long = time .before .before in
+    rw (c .frames-rows .ensures, rest .unless2 .ensures, rest .before .unless .ensures, time .time-row .ensures, time .before .motion-numbers .ensures, long .motion-lengths .ensures)
 
 pub render-refusal-spec : {M : Type 1} → statement M
 render-refusal-spec =

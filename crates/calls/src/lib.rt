@@ -1,0 +1,1 @@
+// What calls are lent, as the records of the rules: specs/.

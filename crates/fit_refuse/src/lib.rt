@@ -1,0 +1,140 @@
+// The tests of fit: straight lines, row by row. The nine slices `sums` are luma's and those of planes 1 and 2 of the
+// previous part, of the own and of the next; `pairs` are the pairs of these parts.
+use fit_trial::Settings;
+ghost use mathlib.Core.Path.{_≡_};
+ghost use mathlib.Core.Bool.{true};
+ghost use mathlib.Core.List.{_∷_, []};
+ghost use Rattle.rules.specs.Domain.{areSums};
+ghost use Rattle.rules.specs.Refusals.{_unless_, firstFitting, isNeighbour, fitTable};
+ghost use Rattle.calls.specs.Lent.{partOf, fitOf};
+ghost use Rattle.fit_refuse.specs.Call.{fitBy, settingRows};
+
+// The numbers of a call: luma's size, the ratio, the pairs of the three parts, and what is looked for.
+pub struct Numbers {
+    pub width: usize,
+    pub height: usize,
+    pub ratio: usize,
+    pub pairs: [usize; 3],
+    pub settings: Settings,
+}
+
+// The sums of a part.
+fn summed(
+    luma: &[f32],
+    chroma1: &[f32],
+    chroma2: &[f32],
+    width: usize,
+    height: usize,
+    ratio: usize,
+) -> bool
+    ensures { λ r. ⌜ r ≡ areSums (partOf (now (luma .entry)) (now (chroma1 .entry)) (now (chroma2 .entry)) 0) (width, height) ratio ⌝ }
+{
+    plane::exact_planes(
+        luma.len(),
+        chroma1.len(),
+        chroma2.len(),
+        6,
+        width,
+        height,
+        ratio,
+    )
+}
+
+// Those of a neighbour, which are not looked at where it is absent.
+fn neighbour(
+    luma: &[f32],
+    chroma1: &[f32],
+    chroma2: &[f32],
+    pairs: usize,
+    width: usize,
+    height: usize,
+    ratio: usize,
+) -> bool
+    ensures { λ r. ⌜ r ≡ isNeighbour (partOf (now (luma .entry)) (now (chroma1 .entry)) (now (chroma2 .entry)) pairs) (width, height) ratio ⌝ }
+{
+    if pairs == 0 {
+        return true;
+    }
+    summed(luma, chroma1, chroma2, width, height, ratio)
+}
+
+// The number of a limit, an evidence figure or pairs outside their ranges, or 0.
+fn ranges(settings: Settings, pairs: [usize; 3]) -> u8
+    ensures { λ r. ⌜ r ≡ firstFitting (settingRows settings pairs ((8 unless true) ∷ [])) ⌝ }
+{
+    let first = plane::within(settings.limit, 0.5, 255.0);
+    let second = plane::within(settings.evidence, 0.0, 65536.0);
+    let before = pairs[0];
+    let own = pairs[1];
+    let after = pairs[2];
+    let some = plane::both(1 <= own, own <= 12);
+    plane::unless(
+        6,
+        first,
+        plane::unless(
+            6,
+            second,
+            plane::unless(
+                7,
+                before <= 12,
+                plane::unless(7, some, plane::unless(7, after <= 12, 0)),
+            ),
+        ),
+    )
+}
+
+// The number of the refusal, or 0, before the totals are looked at.
+pub fn refusal(
+    models: &[f32],
+    kept: &[u8],
+    cover: &[u8],
+    luma: &[i16],
+    chroma1: &[i16],
+    chroma2: &[i16],
+    sums: [&[f32]; 9],
+    numbers: Numbers,
+) -> u8
+    ensures { λ r. ⌜
+        r ≡ firstFitting (fitTable (fitBy (sums .entry) numbers (now (models .entry)) (now (kept .entry)) (now (cover .entry))
+        (fitOf (now (luma .entry)) (now (chroma1 .entry)) (now (chroma2 .entry)))) true) ⌝ }
+{
+    let width = numbers.width;
+    let height = numbers.height;
+    let ratio = numbers.ratio;
+    let pairs = numbers.pairs;
+    let first = neighbour(sums[0], sums[1], sums[2], pairs[0], width, height, ratio);
+    let second = summed(sums[3], sums[4], sums[5], width, height, ratio);
+    let third = neighbour(sums[6], sums[7], sums[8], pairs[2], width, height, ratio);
+    let fourth = plane::exact(models.len(), 4, width, height);
+    let fifth = plane::is_product(kept.len(), width, height);
+    let sixth = table::exact_cover(cover.len(), width, height);
+    let seventh = plane::exact_planes(
+        luma.len(),
+        chroma1.len(),
+        chroma2.len(),
+        2,
+        width,
+        height,
+        ratio,
+    );
+    let rest = ranges(numbers.settings, pairs);
+    let works = plane::unless(
+        4,
+        fourth,
+        plane::unless(
+            4,
+            fifth,
+            plane::unless(4, sixth, plane::unless(4, seventh, rest)),
+        ),
+    );
+    let parts = plane::unless(
+        4,
+        first,
+        plane::unless(4, second, plane::unless(4, third, works)),
+    );
+    plane::unless(
+        1,
+        plane::sizes(width, height),
+        plane::unless(2, plane::ratioed(ratio, width, height), parts),
+    )
+}

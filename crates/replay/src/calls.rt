@@ -1,0 +1,13 @@
+pub mod apply;
+pub mod assemble;
+pub mod distances;
+pub mod empty;
+pub mod fit;
+pub mod hold;
+pub mod mask;
+pub mod peel;
+pub mod peel_numbers;
+pub mod render;
+pub mod stats;
+pub mod unpeel;
+pub mod unpeel_numbers;

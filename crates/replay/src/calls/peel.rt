@@ -1,0 +1,29 @@
+// The cases of peel.
+use crate::arguments::ROOM;
+use crate::arguments::bytes;
+use crate::arguments::size;
+use crate::loads::load_bytes;
+use crate::right::Check;
+
+// Runs one and compares what it answers and leaves.
+pub fn run(all: &[u8], at: usize) -> Check {
+    let mut output = [0u8; ROOM];
+    let output = load_bytes(all, at, 3, &mut output);
+    let ours = host::safeteal_peel(
+        bytes(all, at, 0),
+        bytes(all, at, 1),
+        bytes(all, at, 2),
+        size(all, at, 0),
+        size(all, at, 1),
+        size(all, at, 2),
+        size(all, at, 3),
+        size(all, at, 4),
+        size(all, at, 5),
+        output,
+        size(all, at, 6),
+        bytes(all, at, 4),
+        size(all, at, 7),
+    );
+    let check = crate::right::answer(all, at, 5, ours);
+    crate::right::bytes(all, check, output)
+}

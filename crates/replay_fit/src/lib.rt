@@ -1,2 +1,0 @@
-pub mod assemble;
-pub mod fit;

@@ -1,2 +1,0 @@
-pub mod render;
-pub mod stats;

@@ -1,4 +1,0 @@
-pub mod apply;
-pub mod distances;
-pub mod hold;
-pub mod mask;

@@ -1,0 +1,35 @@
+-- `still_apply::apply` meets its contract. Assumes nothing.
+use mathlib.Core.Path.{sym, _∙_}
+use Rattle.still_pass.proofs.Pass.{refused, ran}
+use Rattle.still_apply.proofs.Runs.{rule-is, runs}
+use borrow.Author.Needs.{needs}
+use Rattle.still_apply.proofs.apply.Statement.{statement}
+use Rattle.still_apply.proofs.apply.Tie as tie
+
+abbrev start : tie.Else1 → tie.Start
+start c = c .before .before .before .before .before .before .before
+
+returns : tie.Need-returns
+returns c = refused _ _ _ _ (c .before .apply-refusal .ensures) (c .if1 .taken)
+
+pass-requires : tie.Need-pass-requires
+pass-requires c κs =
+    let tested = c .before .before in
+    let a = start tested .args in
+    rw (c .before .steps-of .ensures)
+    (runs (a .output .now) (a .t2) (a .mask .now) (a .numbers) (sym (tested .before .apply-refusal .ensures) ∙ tested .if1 .left))
+
+returns-2 : tie.Need-returns-2
+returns-2 c =
+    let done = c .before .before in
+    let steps = done .before .before in
+    let tested = steps .before in
+    let a = start tested .args in
+    ran _ _ _ _ (tested .before .apply-refusal .ensures) _ (tested .if1 .left)
+    (rw (steps .steps-of .ensures, ← rule-is (a .output .now) (a .t2) (a .mask .now) (a .numbers)) at (done .pass .ensures .bytes))
+
+pub apply-spec : {M : Type 1} → statement M
+apply-spec =
+    tie.close
+    (tie.spec (λ c. search needs) (λ c. search needs) (λ c κs. search needs) (λ c. search needs) returns (λ c κs. search needs)
+    pass-requires (λ c. search needs) returns-2)

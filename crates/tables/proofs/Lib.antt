@@ -1,2 +1,0 @@
--- Laws of tables that are stored entry by entry.
-pub mod Laws

@@ -1,1 +1,0 @@
-// Tables that are stored entry by entry: specs/ and proofs/.

@@ -1,2 +1,0 @@
-pub mod Fifth
-pub mod Models
