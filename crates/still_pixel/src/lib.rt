@@ -17,18 +17,17 @@ fn weighed(kept: u8, made: u8, sum: u32, full: u32) -> u8
     ((mixed + full / 2) / full) as u8
 }
 
-// By hold: what the byte that was made becomes, with place k of the plane that is kept. A pixel of full sum stays. It
-// is passed over before it is weighed, or, where `skip` is false, weighed like the others: a row is then a loop without
-// a branch.
-pub fn held(kept: &[u8], k: usize, made: u8, sum: u32, cells: u32, skip: bool) -> u8
-    requires { ⌜ (k < length (now kept)) × Weight sum cells ⌝ }
-    ensures { λ r. ⌜ r ≡ cond (ltb sum (255 * cells)) (weighedOf (getD (now (kept .entry)) k 0) made sum (255 * cells)) made ⌝ }
+// By hold: what the byte that was made becomes, with the one that is kept. A pixel of full sum stays. It is passed over
+// before it is weighed, or, where `skip` is false, weighed like the others: a row is then a loop without a branch.
+pub fn held(kept: u8, made: u8, sum: u32, cells: u32, skip: bool) -> u8
+    requires { ⌜ Weight sum cells ⌝ }
+    ensures { λ r. ⌜ r ≡ cond (ltb sum (255 * cells)) (weighedOf kept made sum (255 * cells)) made ⌝ }
 {
     let full = 255 * cells;
     if plane::both(skip, sum == full) {
         return made;
     }
-    weighed(kept[k], made, sum, full)
+    weighed(kept, made, sum, full)
 }
 
 // Whether enough of a pixel's cells are still.

@@ -28,9 +28,10 @@ fn hold_row(
     while x < numbers.width {
         let k = plane::place(y, numbers.output_pitch, x);
         let from = plane::place(y, numbers.pitch, x);
+        let made = output[k];
         let sum = still_cells::byte_sum(mask, numbers.mask_width, across, down, x, y);
-        let old = output[k];
-        output[k] = still_pixel::held(held, from, old, sum, cells, skip);
+        let kept = held[from];
+        output[k] = still_pixel::held(kept, made, sum, cells, skip);
         x += 1;
     }
 }

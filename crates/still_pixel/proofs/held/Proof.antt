@@ -10,30 +10,27 @@ use borrow.Author.Needs.{needs}
 use Rattle.still_pixel.proofs.held.Statement.{statement}
 use Rattle.still_pixel.proofs.held.Tie as tie
 
-abbrev start : tie.After-shared-slice-known2 → tie.Start
-start c = c .before .before .before .before
-
 mul-full : tie.Need-mul-full
-mul-full c = omega (arith, c .before .pre .1 .few)
+mul-full c = omega (arith, c .pre .few)
 
 returns : tie.Need-returns
 returns c =
-    let a = c .before .before .before .args in
+    let a = c .before .before .args in
     let same = both (a .skip) (eqb (a .sum) (255 * a .cells)) (sym (c .before .both .ensures) ∙ c .if1 .taken) .1 in
     stays (a .made) _ (a .sum) (255 * a .cells) (eqb-true (a .sum) (255 * a .cells) same)
 
 weighed-requires : tie.Need-weighed-requires
 weighed-requires c κs =
-    let w = start c .pre .1 in
+    let w = c .before .before .pre in
     (w .most, omega (arith, w .some), omega (arith, w .few))
 
 returns-2 : tie.Need-returns-2
 returns-2 c =
-    let s = start (c .before) in
-    let w = s .pre .1 in
+    let s = c .before .before .before in
+    let w = s .pre in
     c .weighed .ensures ∙ always _ (s .args .made) _ _ (w .most) (omega (arith, w .some))
 
 pub held-spec : {M : Type 1} → statement M
 held-spec =
     tie.close
-    (tie.spec mul-full (λ c κs. search needs) returns (λ c. search needs) weighed-requires returns-2)
+    (tie.spec mul-full (λ c κs. search needs) returns weighed-requires returns-2)

@@ -45,35 +45,40 @@ place-requires-2 c κs =
     let left = c .before .if1 .taken in
     (omega arith, row .apart, omega arith)
 
-byte-sum-requires : tie.Need-byte-sum-requires Inv-loop μ-loop
-byte-sum-requires c κs = pixel-cells (start (c .before .before .before .before) .pre .0 .cells) (c .before .before .if1 .taken)
-
-slice-read-old : tie.Need-slice-read-old Inv-loop μ-loop
-slice-read-old c =
-    let p = c .before .before .before in
+slice-read-made : tie.Need-slice-read-made Inv-loop μ-loop
+slice-read-made c =
+    let p = c .before .before in
     let l = p .before .before .before in
     omega (arith, p .place .ensures, p .before .if1 .taken, l .loop .inv .2, start l .pre .0 .room .inside)
+
+byte-sum-requires : tie.Need-byte-sum-requires Inv-loop μ-loop
+byte-sum-requires c κs =
+    let p = c .before .before in
+    pixel-cells (start (p .before .before .before) .pre .0 .cells) (p .before .if1 .taken)
+
+shared-slice-read-kept : tie.Need-shared-slice-read-kept Inv-loop μ-loop
+shared-slice-read-kept c =
+    let from = c .before .before .before in
+    let p = from .before in
+    omega (arith, from .place2 .ensures, p .before .if1 .taken, start (p .before .before .before) .pre .1 .inside)
 
 held-requires : tie.Need-held-requires Inv-loop μ-loop
 held-requires c κs =
     let sum = c .before in
-    let from = sum .before in
-    let l = from .before .before .before .before in
-    let s = start l in
-    let cells = s .pre .0 .cells in
-    let left = from .before .before .if1 .taken in
-    (omega (arith, from .place2 .ensures, s .pre .1 .inside), weight-in (cells .some) (cells .small) (l .before .cell-count .ensures) (sum .byte-sum .ensures .few))
+    let l = sum .before .before .before .before .before .before in
+    let cells = start l .pre .0 .cells in
+    weight-in (cells .some) (cells .small) (l .before .cell-count .ensures) (sum .byte-sum .ensures .few)
 
 slice-write-output : tie.Need-slice-write-output Inv-loop μ-loop
 slice-write-output c =
-    let p = c .before .before .before .before in
+    let p = c .before .before .before .before .before in
     let l = p .before .before .before in
     omega (arith, p .place .ensures, p .before .if1 .taken, l .loop .inv .2, start l .pre .0 .room .inside)
 
 loop-again : tie.Need-loop-again Inv-loop μ-loop
 loop-again c =
     let sum = c .before .before in
-    let from = sum .before in
+    let from = sum .before .before in
     let p = from .before in
     let l = p .before .before .before in
     let a = start l .args in
@@ -89,5 +94,5 @@ returns c =
 pub hold-row-spec : {M : Type 1} → statement M
 hold-row-spec =
     tie.close
-    (tie.spec Inv-loop μ-loop cell-count-requires loop-holds place-requires place-requires-2 byte-sum-requires slice-read-old
-    held-requires slice-write-output (λ c. search needs) (λ c. search needs) loop-again (λ c. search needs) returns)
+    (tie.spec Inv-loop μ-loop cell-count-requires loop-holds place-requires place-requires-2 slice-read-made byte-sum-requires
+    shared-slice-read-kept held-requires slice-write-output (λ c. search needs) (λ c. search needs) loop-again (λ c. search needs) returns)

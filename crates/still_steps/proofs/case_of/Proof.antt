@@ -6,19 +6,19 @@ use Rattle.still_steps.proofs.case_of.Statement.{statement}
 use Rattle.still_steps.proofs.case_of.Tie as tie
 
 returns : tie.Need-returns
-returns c = tested (c .before .before .before .before .args .steps) 1 1 (sym (c .before .both .ensures) ∙ c .if1 .taken)
+returns c = tested _ 1 1 (sym (c .before .both .ensures) ∙ c .if1 .taken)
 
 returns-2 : tie.Need-returns-2
-returns-2 c = tested (c .before .before .before .before .before .before .before .before .args .steps) 2 1 (sym (c .before .both2 .ensures) ∙ c .if2 .taken)
+returns-2 c = tested _ 2 1 (sym (c .before .both2 .ensures) ∙ c .if2 .taken)
 
 returns-3 : tie.Need-returns-3
-returns-3 c = tested (c .before .before .before .before .before .before .before .before .before .before .before .before .args .steps) 3 1 (sym (c .before .both3 .ensures) ∙ c .if3 .taken)
+returns-3 c = tested _ 3 1 (sym (c .before .both3 .ensures) ∙ c .if3 .taken)
 
 returns-4 : tie.Need-returns-4
-returns-4 c = tested (c .before .before .before .before .before .before .before .before .before .before .before .before .before .before .before .before .args .steps) 1 2 (sym (c .before .both4 .ensures) ∙ c .if4 .taken)
+returns-4 c = tested _ 1 2 (sym (c .before .both4 .ensures) ∙ c .if4 .taken)
 
 returns-5 : tie.Need-returns-5
-returns-5 c = tested (c .before .before .before .before .before .before .before .before .before .before .before .before .before .before .before .before .before .before .before .before .args .steps) 2 2 (sym (c .before .both5 .ensures) ∙ c .if5 .taken)
+returns-5 c = tested _ 2 2 (sym (c .before .both5 .ensures) ∙ c .if5 .taken)
 
 pub case-of-spec : {M : Type 1} → statement M
 case-of-spec =
