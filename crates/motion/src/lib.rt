@@ -124,9 +124,9 @@ fn columns(
     }
 }
 
-// The columns around a pixel, read anew. The fields come singly: so it is small enough to be compiled into each row's loop,
-// and what is carried stays in registers.
-fn read(
+// The columns around a pixel, read anew. The fields come singly: so it is small enough to be compiled into each row's
+// loop, and what is carried stays in registers.
+pub fn around(
     forward_x: &[u16],
     forward_y: &[u16],
     backward_x: &[u16],
@@ -169,23 +169,6 @@ fn read(
     }
 }
 
-// The same of fields that come together.
-pub fn around(fields: [&[u16]; 4], grid: Grid, ratio: usize, down: Taps, across: Taps) -> Carried
-    requires { ⌜ Moves fields grid ratio × Rows (grid .height) down × (across .first < grid .width) ⌝ }
-    ensures { λ r. ⌜ Carries (motionOf (fields .entry) grid) ratio down across r ⌝ }
-{
-    read(
-        fields[0],
-        fields[1],
-        fields[2],
-        fields[3],
-        grid,
-        ratio,
-        down,
-        across,
-    )
-}
-
 // The columns around a pixel between two: those of the pixel before it, where they are the same.
 pub fn carry_to(
     fields: [&[u16]; 4],
@@ -208,7 +191,7 @@ pub fn carry_to(
             right,
         };
     }
-    read(
+    around(
         fields[0],
         fields[1],
         fields[2],

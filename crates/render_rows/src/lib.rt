@@ -236,7 +236,16 @@ fn render_row(
     let grid = job.grid;
     let down = motion::row_taps(grid, plan.span, y);
     let across = motion::column_taps(grid, plan.span, 0);
-    let carried = motion::around(fields, grid, plan.span, down, across);
+    let carried = motion::around(
+        fields[0],
+        fields[1],
+        fields[2],
+        fields[3],
+        grid,
+        plan.span,
+        down,
+        across,
+    );
     let start = Run { count, carried };
     render_cells(output, job, numbers, bytes, frames, fields, down, start, y)
 }

@@ -1,4 +1,4 @@
-// The stored list of right answers: its bytes as numbers. host/src/check/stored.rs says how it is laid out.
+// The stored list of right answers: its bytes as numbers. host/compare/src/check/stored.rs says how it is laid out.
 //
 // A place is a byte's number in the list, or PAST_END; what is read past the list's end is 0.
 ghost use Prim.Native.Nat.{_<_};

@@ -156,7 +156,16 @@ fn gather_row(
     let ratio = task.ratio;
     let down = motion::row_taps(grid, ratio, y);
     let across = motion::column_taps(grid, ratio, 0);
-    let start = motion::around(fields, grid, ratio, down, across);
+    let start = motion::around(
+        fields[0],
+        fields[1],
+        fields[2],
+        fields[3],
+        grid,
+        ratio,
+        down,
+        across,
+    );
     gather_pixels(sums, frames, fields, task, down, start, place, y);
 }
 

@@ -1,17 +1,17 @@
 -- `motion::around` meets its contract. Assumes nothing.
 use borrow.Author.Needs.{needs}
+use mathlib.Core.Path.{refl}
 use Rattle.motion.proofs.around.Statement.{statement}
 use Rattle.motion.proofs.around.Tie as tie
 
-read-requires : tie.Need-read-requires
-read-requires c κs =
-    let s = c .before .before .before .before in
-    (record { laid = s .pre .0 .laid; forward = s .pre .0 .forward; backward = s .pre .0 .backward }, s .pre .1, s .pre .2)
-
 returns : tie.Need-returns
-returns c = c .read .ensures
+returns c =
+    record {
+      first = refl;
+      share = refl;
+      holds = record { left = c .before .columns .ensures; right = rw (← (c .before .before .after .ensures .0)) (c .columns2 .ensures) };
+    }
 
 pub around-spec : {M : Type 1} → statement M
 around-spec =
-    tie.close
-    (tie.spec (λ c. search needs) (λ c. search needs) (λ c. search needs) (λ c. search needs) read-requires returns)
+    tie.close (tie.spec (λ c κs. search needs) (λ c κs. search needs) (λ c κs. search needs) returns)
