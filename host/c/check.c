@@ -1,0 +1,392 @@
+/* Holds what safeteal.h says to libhost.a: each check that fails is told with its line, and the last line counts them.
+
+   To build it, in the project's root: cc -Ihost host/c/check.c target/staticlib/libhost.a -o check */
+#include <math.h>
+#include <stdio.h>
+#include <string.h>
+
+#include "safeteal.h"
+
+static int passed, failed;
+
+static void check(bool right, const char *what, int line) {
+    if (right) {
+        passed++;
+    } else {
+        failed++;
+        printf("host/c/check.c:%d: this does not hold: %s\n", line, what);
+    }
+}
+
+#define CHECK(what) check(what, #what, __LINE__)
+#define REFUSED(name, call) check(safeteal_number(call) == SAFETEAL_REFUSED_##name, #name ": " #call, __LINE__)
+#define NOTHING NULL, 0
+
+static void answers(void) {
+    CHECK(safeteal_number(3 * 256 + 7) == SAFETEAL_REFUSED_PAIRS && safeteal_count(3 * 256 + 7) == 3);
+    CHECK(safeteal_count(UINT64_MAX) == UINT64_MAX >> 8);
+    for (int a = SAFETEAL_ACCEPTED; a <= SAFETEAL_REFUSED_CHROMA_TOTAL + 1; a++) {
+        for (int b = SAFETEAL_ACCEPTED; b < a; b++) {
+            const char *words = safeteal_refusal_words((enum safeteal_refusal)a);
+            CHECK(strcmp(words, safeteal_refusal_words((enum safeteal_refusal)b)) != 0);
+        }
+    }
+}
+
+/* ---- refusals ---- */
+
+/* Stats of a pair of frames of one pixel, with a motion of one block. */
+static uint64_t stats_of(float sums[6], float chroma1[2], float chroma2[2], size_t pairs, int32_t pel) {
+    const uint8_t first = 10, second = 50;
+    const uint16_t none = 1024;
+    return safeteal_stats(
+        sums, 6, chroma1, 2, chroma2, 2, pairs, 1, 1, 1, &first, 1, 1, &first, 1, 1, &first, 1, 1,
+        &second, 1, 1, &second, 1, 1, &second, 1, 1, &none, 1, &none, 1, &none, 1, &none, 1, 1, 1, 16, 16, 0, 0, pel);
+}
+
+static void each_refusal(void) {
+    uint8_t byte = 1, cover = 0;
+    const uint8_t other = 2;
+    float sums[6], chroma1[2], chroma2[2];
+    REFUSED(SIZE, safeteal_distances(&byte, 1, 0));
+    REFUSED(SIZE, safeteal_mask(&other, 1, &other, 1, 1, 4097, 1, 0, 0, 0, &byte, 1));
+    REFUSED(RATIO, safeteal_assemble(5, 1, 2, NOTHING, NOTHING, NOTHING, NOTHING, NOTHING));
+    REFUSED(RATIO, safeteal_hold(&byte, 1, 1, &other, 1, 1, 1, 1, &other, 1, 9));
+    REFUSED(PITCH, safeteal_mask(&other, 1, &other, 1, 0, 1, 1, 0, 0, 0, &byte, 1));
+    REFUSED(PITCH, safeteal_mask(&other, 1, &other, 1, 65537, 1, 1, 0, 0, 0, &byte, 1));
+    REFUSED(LENGTH, safeteal_mask(&other, 1, &other, 1, 1, 1, 1, 0, 0, 0, &byte, 0));
+    memset(sums, 0, sizeof sums);
+    memset(chroma1, 0, sizeof chroma1);
+    memset(chroma2, 0, sizeof chroma2);
+    REFUSED(MOTION, stats_of(sums, chroma1, chroma2, 0, 3));
+    REFUSED(SETTING, safeteal_apply(&byte, 1, 1, &other, 1, &other, 1, 1, 1, 1, &other, 1, 1, 1.5f));
+    REFUSED(SETTING, safeteal_apply(&byte, 1, 1, &other, 1, &other, 1, 1, 1, 1, &other, 1, 1, NAN));
+    REFUSED(PAIRS, stats_of(sums, chroma1, chroma2, 12, 1));
+    CHECK(byte == 1 && sums[0] == 0 && chroma1[0] == 0 && chroma2[0] == 0);
+
+    /* Four offsets of 4096 make a total of 65536 64ths. */
+    const float models[16] = {1, 0, 4096, 0, 1, 0, 4096, 0, 1, 0, 4096, 0, 1, 0, 4096, 0};
+    int16_t luma[8] = {7}, one[2] = {7}, two[2] = {7};
+    uint64_t answer = safeteal_assemble(2, 2, 2, models, 16, &cover, 1, luma, 8, one, 2, two, 2);
+    CHECK(answer == SAFETEAL_REFUSED_CHROMA_TOTAL && luma[0] == 7 && one[0] == 7 && two[0] == 7);
+}
+
+/* Where all slices are NULL with 0, each call comes back, with 4; a mask without cells is 2, and no cells at all are no
+   wrong length for distances. */
+static void nothing_lent(void) {
+    REFUSED(LENGTH, safeteal_stats(
+        NOTHING, NOTHING, NOTHING, 0, 1, 1, 1, NOTHING, 1, NOTHING, 1, NOTHING, 1, NOTHING, 1, NOTHING, 1, NOTHING, 1,
+        NOTHING, NOTHING, NOTHING, NOTHING, 1, 1, 16, 16, 0, 0, 1));
+    REFUSED(LENGTH, safeteal_fit(
+        NOTHING, NOTHING, NOTHING, 0, NOTHING, NOTHING, NOTHING, 1, NOTHING, NOTHING, NOTHING, 0, 1, 1, 6, 2, false, 1,
+        NOTHING, NOTHING, NOTHING, NOTHING, NOTHING, NOTHING));
+    REFUSED(LENGTH, safeteal_assemble(1, 1, 1, NOTHING, NOTHING, NOTHING, NOTHING, NOTHING));
+    REFUSED(LENGTH, safeteal_peel(NOTHING, NOTHING, NOTHING, 1, 1, 1, 1, 1, 0, NOTHING, 1, NOTHING, 1));
+    REFUSED(LENGTH, safeteal_peel_numbers(NOTHING, NOTHING, NOTHING, 1, 1, 1, 1, 1, 0, NOTHING, 1, NOTHING, 1));
+    REFUSED(LENGTH, safeteal_unpeel(
+        NOTHING, NOTHING, NOTHING, 1, 1, 1, 1, 1, 0, NOTHING, 1, NOTHING, 1, NOTHING, 1, 0));
+    REFUSED(LENGTH, safeteal_unpeel_numbers(
+        NOTHING, NOTHING, NOTHING, 1, 1, 1, 1, 1, 0, NOTHING, 1, NOTHING, 1, NOTHING, 1, 0));
+    REFUSED(LENGTH, safeteal_render(
+        NOTHING, NOTHING, NOTHING, 1, 1, 1, 1, 1, 0, NOTHING, 1, NOTHING, 1, NOTHING, 1, 0,
+        NOTHING, NOTHING, NOTHING, NOTHING, 1, 1, 16, 16, 0, 0, 1, 0));
+    REFUSED(LENGTH, safeteal_empty(NOTHING, NOTHING, NOTHING, 1, 1, 1, 1, 1));
+    REFUSED(LENGTH, safeteal_mask(NOTHING, NOTHING, 1, 1, 1, 0, 0, 0, NOTHING));
+    REFUSED(RATIO, safeteal_apply(NOTHING, 1, NOTHING, NOTHING, 1, 1, 1, NOTHING, 1, 0));
+    REFUSED(RATIO, safeteal_hold(NOTHING, 1, NOTHING, 1, 1, 1, NOTHING, 1));
+    CHECK(safeteal_distances(NOTHING, 1) == 0);
+}
+
+/* ---- stats ---- */
+
+/* Sums of a pair of frames of 4 by 1 pixels, by these fields of two blocks of 2 by 1 pixels. */
+static uint64_t summed(float sums[24], const uint16_t forward[2], const uint16_t backward[2], int32_t pel) {
+    const uint8_t first[5] = {10, 20, 30, 40, 99}, second[4] = {1, 2, 3, 4};
+    const uint16_t none[2] = {1024, 1024};
+    float chroma1[8] = {0}, chroma2[8] = {0};
+    uint64_t answer = safeteal_stats(
+        sums, 24, chroma1, 8, chroma2, 8, 0, 4, 1, 1, first, 5, 4, first, 5, 4, first, 5, 4,
+        second, 4, 4, second, 4, 4, second, 4, 4,
+        forward, 2, none, 2, backward, 2, none, 2, 2, 1, 2, 1, 0, 0, pel);
+    CHECK(chroma1[2] == sums[6] && chroma1[3] == sums[7] && chroma2[2] == sums[6] && chroma2[3] == sums[7]);
+    return answer;
+}
+
+static void stats(void) {
+    float sums[24];
+    for (uint16_t pel = 1; pel <= 4; pel = (uint16_t)(2 * pel)) {
+        const uint16_t left[2] = {(uint16_t)(1024 - pel), (uint16_t)(1024 - pel)};
+        const uint16_t right[2] = {(uint16_t)(1024 + pel), (uint16_t)(1024 + pel)};
+        memset(sums, 0x55, sizeof sums);
+        CHECK(summed(sums, left, right, pel) == 0);
+        /* At pixel 1 the first frame moved onto the second shows 30, and the second moved onto the first shows 1. */
+        CHECK(sums[6] == 30 + 1 && sums[7] == 2 + 20 && sums[8] == 30 * 30 + 1 * 1);
+        CHECK(sums[9] == 30 * 2 + 1 * 20 && sums[10] == 2 * 2 + 20 * 20 && sums[11] == 1);
+    }
+    /* The blocks' numbers hold at pixels 1 and 3, their middles; between them they are mixed, and before them held. */
+    const uint16_t none[2] = {1024, 1024}, apart[2] = {1025, 1023};
+    CHECK(summed(sums, none, apart, 1) == 0);
+    CHECK(sums[0] == 20 + 1 && sums[6] == 30 + 2 && sums[12] == 30 + 3 && sums[18] == 30 + 4);
+}
+
+/* Sums, models and masks have exact lengths, while a plane and a layer may have more. */
+static void lengths(void) {
+    const uint8_t plane[2] = {5, 5};
+    const int16_t luma[3] = {4096, 0, 9}, chroma[3] = {0, 0, 9};
+    const uint16_t none[2] = {1024, 1024};
+    float sums[7] = {0}, chroma1[2] = {0}, chroma2[2] = {0};
+    uint8_t output[2] = {7, 7}, still[2] = {7, 7};
+    REFUSED(LENGTH, safeteal_stats(
+        sums, 7, chroma1, 2, chroma2, 2, 0, 1, 1, 1, plane, 2, 1, plane, 2, 1, plane, 2, 1, plane, 2, 1, plane, 2, 1,
+        plane, 2, 1, none, 1, none, 1, none, 1, none, 1, 1, 1, 16, 16, 0, 0, 1));
+    REFUSED(LENGTH, safeteal_stats(
+        sums, 6, chroma1, 2, chroma2, 2, 0, 1, 1, 1, plane, 2, 1, plane, 2, 1, plane, 2, 1, plane, 2, 1, plane, 2, 1,
+        plane, 2, 1, none, 2, none, 1, none, 1, none, 1, 1, 1, 16, 16, 0, 0, 1));
+    REFUSED(LENGTH, safeteal_mask(plane, 2, plane, 2, 1, 1, 1, 0, 0, 0, still, 2));
+    CHECK(safeteal_mask(plane, 2, plane, 2, 1, 1, 1, 0, 0, 0, still, 1) == 0 && still[0] == 1 && still[1] == 7);
+    CHECK(safeteal_peel_numbers(
+        luma, 3, chroma, 3, chroma, 3, 1, 1, 1, 1, 1, 0, output, 2, 2, plane, 2, 2) == 0);
+    REFUSED(LENGTH, safeteal_peel_numbers(
+        luma, 1, chroma, 3, chroma, 3, 1, 1, 1, 1, 1, 1, output, 2, 2, plane, 2, 2));
+    REFUSED(SIZE, safeteal_peel_numbers(luma, 3, chroma, 3, chroma, 3, 1, 1, 1, 1, 1, 3, output, 2, 2, plane, 2, 2));
+    CHECK(output[0] == 7 && output[1] == 7);
+}
+
+/* ---- fit ---- */
+
+/* A part of one pixel: in 24 comparisons the scene goes from 0 to 115 by fives, and half of it shows through. */
+struct sums {
+    float luma[6], chroma1[2], chroma2[2];
+};
+
+static struct sums part(void) {
+    struct sums sums = {{0}, {0}, {0}};
+    for (int comparison = 0; comparison < 24; comparison++) {
+        float scene = 5.0f * (float)comparison, shown = scene / 2 + 100;
+        const float terms[6] = {scene, shown, scene * scene, scene * shown, shown * shown, 1};
+        for (int term = 0; term < 6; term++) {
+            sums.luma[term] += terms[term];
+        }
+        sums.chroma1[0] += 128, sums.chroma1[1] += 160;
+        sums.chroma2[0] += 128, sums.chroma2[1] += 96;
+    }
+    return sums;
+}
+
+/* The layer of a pixel: its gain and offset, the offsets of both planes, and the cell's distance. */
+struct stored {
+    int16_t luma[2], chroma1[2], chroma2[2];
+};
+
+/* A fit of that part, with neighbours of no pairs and these slices. */
+static struct stored fitted(const float *absent, size_t length, float evidence) {
+    struct sums own = part();
+    struct stored stored = {{0}, {0}, {0}};
+    float models[4] = {0};
+    uint8_t kept = 0, cover = 0;
+    uint64_t answer = safeteal_fit(
+        absent, length, absent, length, absent, length, 0, own.luma, 6, own.chroma1, 2, own.chroma2, 2, 12,
+        absent, length, absent, length, absent, length, 0, 1, 1, 6, evidence, false, 1,
+        models, 4, &kept, 1, &cover, 1, stored.luma, 2, stored.chroma1, 2, stored.chroma2, 2);
+    CHECK(answer == SAFETEAL_ACCEPTED);
+    return stored;
+}
+
+static void absent_neighbours(void) {
+    const float some[7] = {1, 2, 3, 4, 5, 6, 7};
+    struct stored with_null = fitted(NULL, 0, 24), with_none = fitted(some, 0, 24), with_some = fitted(some, 7, 24);
+    CHECK(with_null.luma[0] > 2000 && with_null.luma[0] < 2100 && with_null.luma[1] > 98 * 64);
+    CHECK(with_null.chroma1[0] > 0 && with_null.chroma2[1] == 0);
+    CHECK(memcmp(&with_null, &with_none, sizeof with_null) == 0);
+    CHECK(memcmp(&with_null, &with_some, sizeof with_null) == 0);
+
+    /* Above two comparisons a pair nothing is found: gain 1, offset 0, the cell far from any mark. */
+    struct stored nothing = fitted(NULL, 0, 25);
+    CHECK(nothing.luma[0] == 4096 && nothing.luma[1] == 0 && nothing.chroma2[1] == 255);
+    CHECK(safeteal_empty(nothing.luma, 2, nothing.chroma1, 2, nothing.chroma2, 2, 1, 1, 1, 1, 1) == 256);
+    CHECK(safeteal_empty(with_null.luma, 2, with_null.chroma1, 2, with_null.chroma2, 2, 1, 1, 1, 1, 1) == 0);
+}
+
+/* A neighbour that is present counts: its slices are measured, and NULL with 0 is then a wrong length. */
+static void present_neighbours(void) {
+    struct sums own = part();
+    struct stored stored = {{0}, {0}, {0}};
+    float models[4] = {3, 3, 3, 3};
+    uint8_t kept = 3, cover = 3;
+    REFUSED(LENGTH, safeteal_fit(
+        NOTHING, NOTHING, NOTHING, 1, own.luma, 6, own.chroma1, 2, own.chroma2, 2, 12, NOTHING, NOTHING, NOTHING, 0,
+        1, 1, 6, 24, false, 1, models, 4, &kept, 1, &cover, 1, stored.luma, 2, stored.chroma1, 2, stored.chroma2, 2));
+    REFUSED(PAIRS, safeteal_fit(
+        NOTHING, NOTHING, NOTHING, 0, own.luma, 6, own.chroma1, 2, own.chroma2, 2, 0, NOTHING, NOTHING, NOTHING, 0,
+        1, 1, 6, 24, false, 1, models, 4, &kept, 1, &cover, 1, stored.luma, 2, stored.chroma1, 2, stored.chroma2, 2));
+    CHECK(models[0] == 3 && kept == 3 && cover == 3 && stored.luma[0] == 0);
+}
+
+/* ---- what is written and what is left alone ---- */
+
+/* A layer of 2 by 1 pixels, of gain 2 and offset 10 on the left and of gain 1 and offset 0 on the right. */
+static const int16_t LUMA[4] = {8192, 4096, 640, 0}, CHROMA1[4] = {0};
+static const uint8_t LUMA_BYTES[9] = {0x00, 0x20, 0x00, 0x10, 0x80, 0x02, 0, 0, 99}, CHROMA_BYTES[8] = {0, 0, 0, 0, 1};
+
+static void peel(void) {
+    const uint8_t raw[3] = {110, 200, 9};
+    for (int16_t distance = -1; distance <= 2; distance++) {
+        const int16_t chroma2[4] = {0, 0, distance, 0};
+        uint8_t output[4] = {7, 7, 7, 7};
+        uint64_t answer = safeteal_peel_numbers(
+            LUMA, 4, CHROMA1, 4, chroma2, 4, 2, 2, 2, 1, 1, 0, output, 4, 3, raw, 3, 3);
+        uint8_t lifted = distance <= 1 ? 50 : 7;
+        CHECK(answer == (distance <= 1 ? 256 : 0));
+        CHECK(output[0] == lifted && output[1] == 7 && output[2] == 7 && output[3] == 7);
+    }
+    uint8_t output[2] = {7, 7};
+    CHECK(safeteal_peel(
+        LUMA_BYTES, 9, CHROMA_BYTES, 8, CHROMA_BYTES, 8, 2, 2, 2, 1, 1, 0, output, 2, 2, raw, 2, 2) == 256);
+    CHECK(output[0] == 50 && output[1] == 7);
+}
+
+/* Chroma at ratio 2: a pixel has the mean of four gains, its own offset and the distance of a luma cell. */
+static void peel_chroma(void) {
+    const int16_t luma[8] = {2048, 2048, 4096, 8192, 0, 0, 0, 0}, chroma1[2] = {-640, 0}, chroma2[2] = {640, 1};
+    const uint8_t raw = 110;
+    for (size_t plane = 1; plane <= 2; plane++) {
+        uint8_t output[2] = {7, 7};
+        uint64_t answer = safeteal_peel_numbers(
+            luma, 8, chroma1, 2, chroma2, 2, 2, 1, 2, 2, 2, plane, output, 2, 1, &raw, 1, 1);
+        CHECK(answer == 256 && output[0] == (plane == 1 ? 120 : 100) && output[1] == 7);
+    }
+}
+
+/* Nothing can be lifted by a gain below 0.2: the lifted points around are taken, and raw where there are none. */
+static void fill(void) {
+    const int16_t chroma[2] = {0, 0};
+    const uint8_t raw = 110;
+    for (int16_t gain = -820; gain <= 820; gain = (int16_t)(gain == -819 ? 819 : gain + 1)) {
+        const int16_t luma[2] = {gain, 0};
+        uint8_t output = 7;
+        CHECK(safeteal_peel_numbers(luma, 2, chroma, 2, chroma, 2, 1, 1, 1, 1, 1, 0, &output, 1, 1, &raw, 1, 1) == 256);
+        CHECK(output == (gain == -820 ? 0 : gain == 820 ? 255 : 110));
+    }
+    /* Held to 8 by 2 pixels, three of the eight points around (0, 0) are on it, two on (4, 0), two on (0, 1), one on
+       (4, 1). */
+    int16_t luma[32] = {0}, cells[8] = {0};
+    for (size_t at = 1; at < 16; at++) {
+        luma[at] = 4096;
+    }
+    uint8_t before[16] = {0}, output[16] = {0};
+    before[4] = 100;
+    CHECK(safeteal_peel_numbers(luma, 32, cells, 8, cells, 8, 8, 4, 8, 2, 2, 0, output, 16, 8, before, 16, 8) == 256);
+    CHECK(output[0] == 40 && output[4] == 0);
+}
+
+/* Unpeel of 2 by 1 pixels over bytes of 40: own bytes that are far apart, and ones that are near. */
+static void unpeel(void) {
+    const int16_t chroma2[4] = {0, 0, 1, 0};
+    const uint8_t first[2] = {110, 110}, far_off[2] = {100, 100}, near_by[2] = {108, 108};
+    uint8_t output[3] = {40, 40, 40};
+    CHECK(safeteal_unpeel_numbers(
+        LUMA, 4, CHROMA1, 4, chroma2, 4, 2, 2, 2, 1, 1, 0, output, 3, 2, first, 2, 2, far_off, 2, 2, 0.5f) == 256);
+    CHECK(output[0] == 100 && output[1] == 40 && output[2] == 40);
+    output[0] = 40;
+    CHECK(safeteal_unpeel(
+        LUMA_BYTES, 8, CHROMA_BYTES, 8, CHROMA_BYTES, 8, 2, 2, 2, 1, 1, 0,
+        output, 3, 2, first, 2, 2, near_by, 2, 2, 0.5f) == 256);
+    CHECK(output[0] == 109 && output[1] == 40 && output[2] == 40);
+    REFUSED(SETTING, safeteal_unpeel_numbers(
+        LUMA, 4, CHROMA1, 4, chroma2, 4, 2, 2, 2, 1, 1, 0, output, 3, 2, first, 2, 2, far_off, 2, 2, NAN));
+    CHECK(output[0] == 109 && output[1] == 40 && output[2] == 40);
+}
+
+/* Render writes up to a gap of 16, distance 3, and from there on as far as the motion leads. */
+static void render(void) {
+    const uint8_t first[2] = {110, 60}, second[2] = {100, 60};
+    const uint16_t none = 1024, right = 1024 + 4 * 40;
+    for (int16_t distance = 0; distance <= 8; distance++) {
+        const int16_t chroma2[4] = {0, 0, distance, 0};
+        for (int moving = 0; moving < 2; moving++) {
+            uint8_t output[3] = {7, 7, 7};
+            /* 40 pixels at pel 4, forward, of which half is left at time 0.5: gaps up to 21. */
+            uint64_t answer = safeteal_render(
+                LUMA, 4, CHROMA1, 4, chroma2, 4, 2, 2, 2, 1, 1, 0, output, 3, 2, first, 2, 2, second, 2, 2, 0.5f,
+                moving ? &right : &none, 1, &none, 1, &none, 1, &none, 1, 1, 1, 16, 16, 0, 0, 4, 0);
+            bool near = 8 * distance - 8 <= (moving ? 21 : 16);
+            CHECK(answer == (near ? 512 : 0));
+            CHECK((output[0] != 7) == near && (output[1] == 60) == near && output[2] == 7);
+        }
+    }
+}
+
+static void distances(void) {
+    uint8_t cells[8] = {255, 255, 255, 0, 255, 255, 255, 9};
+    CHECK(safeteal_distances(cells, 8, 7) == 0);
+    const uint8_t expected[8] = {3, 2, 1, 0, 1, 2, 3, 9};
+    CHECK(memcmp(cells, expected, 8) == 0);
+}
+
+/* ---- what stood still ---- */
+
+static void mask(void) {
+    const uint8_t first[6] = {10, 10, 0, 10, 10, 0}, second[6] = {14, 14, 0, 14, 15, 0};
+    uint8_t still[4] = {7, 7, 7, 7};
+    CHECK(safeteal_mask(first, 6, second, 6, 3, 2, 2, 4.5f / 255, INFINITY, NAN, still, 4) == 0);
+    CHECK(still[0] == 1 && still[1] == 1 && still[2] == 1 && still[3] == 0);
+}
+
+/* A pixel of two by two cells, and one of a pitch's rest. */
+static void apply(void) {
+    const uint8_t first = 100, second = 201;
+    for (uint8_t sum = 0; sum <= 4; sum++) {
+        const uint8_t still[4] = {sum > 0, sum > 1, sum > 2, sum > 3};
+        uint8_t output[2] = {7, 7};
+        CHECK(safeteal_apply(output, 2, 2, &first, 1, &second, 1, 1, 1, 1, still, 4, 2, 0.5f) == 0);
+        CHECK(output[0] == (10 * sum > 4 * 4 ? 151 : 7) && output[1] == 7);
+    }
+}
+
+static void hold(void) {
+    const unsigned bytes[4] = {0, 100, 200, 255};
+    for (unsigned sum = 0; sum <= 510; sum++) {
+        for (int pair = 0; pair < 16; pair++) {
+            unsigned kept = bytes[pair / 4], made = bytes[pair % 4], full = 255 * 2;
+            const uint8_t held = (uint8_t)kept, weights[2] = {(uint8_t)(sum / 2), (uint8_t)(sum - sum / 2)};
+            uint8_t output[2] = {(uint8_t)made, 7};
+            bool right = safeteal_hold(output, 2, 2, &held, 1, 1, 1, 1, weights, 2, 1) == 0;
+            unsigned weighed = (kept * (full - sum) + made * sum + full / 2) / full;
+            right = right && output[0] == (sum < full ? weighed : made) && output[1] == 7;
+            CHECK(right);
+        }
+    }
+    const uint8_t held = 200, weight = 128;
+    uint8_t output = 100;
+    CHECK(safeteal_hold(&output, 1, 1, &held, 1, 1, 1, 1, &weight, 1, 1) == 0 && output == 150);
+}
+
+static void single_numbers(void) {
+    CHECK(safeteal_pixel(2.5f) == 3 && safeteal_pixel(-3) == 0 && safeteal_pixel(1e9f) == 255);
+    CHECK(safeteal_pixel(NAN) == 0 && safeteal_pixel(0.49999997f) == 0);
+    CHECK(safeteal_stored(0.5f, 4096) == 2048 && safeteal_stored(8, 4096) == 32767);
+    CHECK(safeteal_stored(-1.0f / 128, 64) == -1 && safeteal_stored(-1e9f, 64) == -32767);
+    CHECK(safeteal_stored(NAN, 64) == 0);
+}
+
+int main(void) {
+    answers();
+    each_refusal();
+    nothing_lent();
+    absent_neighbours();
+    present_neighbours();
+    stats();
+    lengths();
+    peel();
+    peel_chroma();
+    fill();
+    unpeel();
+    render();
+    distances();
+    mask();
+    apply();
+    hold();
+    single_numbers();
+    printf("%d checks hold, %d do not\n", passed, failed);
+    return failed == 0 ? 0 : 1;
+}

@@ -1,0 +1,242 @@
+//! Each call beside the Rust on one thread: the same inputs, in one run, by turns.
+
+#[cfg(before)]
+pub mod before;
+pub mod scene;
+
+/// A call's workloads at mask steps of a pixel: for each, a mask with nothing, half or everything marked.
+macro_rules! at_steps {
+    ($call:literal, $make:ident) => {
+        at_steps!($call, $make, (2, 1), (1, 2), (3, 1), (4, 4), (8, 8))
+    };
+    ($call:literal, $make:ident, $($step:tt),*) => {
+        &[$(
+            at_steps!(one $call, $make, $step, ", nothing marked", None),
+            at_steps!(one $call, $make, $step, ", half marked", Half),
+            at_steps!(one $call, $make, $step, ", all marked", All),
+        )*]
+    };
+    (one $call:literal, $make:ident, ($across:literal, $down:literal), $marked:literal, $part:ident) => {
+        Workload::new($call, concat!("step ", $across, "×", $down, $marked), |width, height| {
+            $make((width / $across, height / $down), ($across, $down), Marked::$part)
+        })
+    };
+}
+
+/// A call's workloads with a mask of the plane's size, and of twice that.
+macro_rules! by_step {
+    ($call:literal, $name:literal, $make:ident) => {
+        &[
+            Workload::new($call, concat!($name, ", step 1"), |width, height| {
+                $make(width, height, 1)
+            }),
+            Workload::new($call, concat!($name, ", step 2"), |width, height| {
+                $make(width / 2, height / 2, 2)
+            }),
+        ]
+    };
+}
+
+/// Our side's call over a layer in the form that it is lent in.
+macro_rules! by_form {
+    ($fitted:expr, $layer:ident, $call:expr) => {
+        match $fitted.bytes() {
+            Some($layer) => black_box($call),
+            None => {
+                let $layer = $fitted.numbers();
+                black_box($call)
+            }
+        }
+    };
+}
+
+/// A call's workloads over a layer: for each, its lettering and the plane of the frames.
+macro_rules! over_layers {
+    ($call:literal, $make:ident) => {
+        over_layers!($call, $make,
+            (Logo, luma), (Logo, chroma), (All, luma), (All, chroma), (Opaque, luma), (Opaque, chroma))
+    };
+    ($call:literal, $make:ident, $(($lettering:ident, $plane:ident)),*) => {
+        &[$(
+            Workload::new($call, concat!(over_layers!($lettering), ", ", stringify!($plane)), |width, height| {
+                $make(Lettering::$lettering.fitted(width, height), over_layers!($plane))
+            })
+        ),*]
+    };
+    (Logo) => { "a fitted logo" };
+    (All) => { "every pixel layered" };
+    (Opaque) => { "every ring failing" };
+    (luma) => { 0 };
+    (chroma) => { 1 };
+}
+
+pub mod apply;
+pub mod assemble;
+pub mod distances;
+pub mod empty;
+pub mod fit;
+pub mod hold;
+pub mod mask;
+pub mod masked;
+pub mod peel;
+pub mod render;
+pub mod stats;
+pub mod unpeel;
+
+use std::time::{Duration, Instant};
+
+use crate::report::rows::{Growth, Row};
+use crate::report::spread;
+
+/// The workloads of every call.
+pub const CALLS: &[&[Workload]] = &[
+    distances::WORKLOADS,
+    mask::WORKLOADS,
+    apply::WORKLOADS,
+    apply::STEPS,
+    hold::WORKLOADS,
+    hold::STEPS,
+    peel::BYTES,
+    unpeel::BYTES,
+    peel::NUMBERS,
+    unpeel::NUMBERS,
+    empty::WORKLOADS,
+    stats::WORKLOADS,
+    assemble::WORKLOADS,
+    fit::WORKLOADS,
+    render::WORKLOADS,
+];
+
+/// The sizes of luma, and how many rounds each gets at most.
+pub const SIZES: [(usize, usize, usize); 4] = [
+    (64, 64, 1024),
+    (512, 512, 128),
+    (1920, 1080, 15),
+    (4096, 4096, 5),
+];
+
+/// No more rounds are begun after this time, save that there are three of them, or one where a round is long; unless so
+/// many are asked for.
+pub const ENOUGH: Duration = Duration::from_secs(2);
+const LONG: Duration = Duration::from_secs(10);
+
+/// A round lasts at least so long, if a thousand calls do.
+const SHORT: Duration = Duration::from_micros(20);
+
+/// Growth is from the side of a small square to that of a large one: the small one is taken so many times that
+/// both have the same pixels, and wait for the memory alike.
+pub const GROWTH: (usize, usize) = (512, 4096);
+pub const GROWTH_ROUNDS: usize = 5;
+
+/// Something a call is measured on.
+pub struct Workload {
+    pub call: &'static str,
+    pub name: &'static str,
+    /// Makes the inputs for a size of luma.
+    pub make: Make,
+}
+
+type Make = fn(usize, usize) -> Box<dyn Sides>;
+
+impl Workload {
+    const fn new(call: &'static str, name: &'static str, make: Make) -> Self {
+        Self { call, name, make }
+    }
+}
+
+/// One input, and both sides on it. Outputs are not cleared between rounds.
+pub trait Sides {
+    /// What the time is divided by: the pixels of the plane, or the cells.
+    fn pixels(&self) -> usize;
+    fn ours(&mut self);
+    fn rust(&mut self);
+    /// Whether both sides have left the same.
+    fn same(&mut self) -> bool;
+}
+
+/// Measures a workload at a size, in at most so many rounds, and no longer than `enough` if that will do.
+pub fn measured(workload: &Workload, size: (usize, usize), most: usize, enough: Duration) -> Row {
+    let mut sides = (workload.make)(size.0, size.1);
+    let (calls, [ours, rust]) = turns(sides.as_mut(), most, enough);
+    let (call, name) = (workload.call, workload.name);
+    assert!(sides.same(), "{call}, {name}: not what the Rust leaves");
+    let both = ours.iter().zip(&rust);
+    let ratios: Vec<f64> = both
+        .map(|(ours, rust)| ours.as_secs_f64() / rust.as_secs_f64())
+        .collect();
+    let (rounds, pixels) = (ours.len(), sides.pixels());
+    let [ours, rust] = [ours, rust].map(|times| per_pixel(times, pixels * calls));
+    Row {
+        call: call.to_owned(),
+        workload: name.to_owned(),
+        size,
+        ours,
+        rust,
+        ratio: ours / rust,
+        spread: spread(&ratios),
+        rounds,
+        pixels,
+    }
+}
+
+/// Runs both sides by turns. A call that is short is made several times in a round, so that the clock costs little. How
+/// many times, and how long the rounds of each side were.
+fn turns(sides: &mut dyn Sides, most: usize, enough: Duration) -> (usize, [Vec<Duration>; 2]) {
+    let (mut ours, mut rust) = (Vec::new(), Vec::new());
+    let start = Instant::now();
+    // A round that does not count: pages are touched and the caches are warm.
+    let once = [timed(|| sides.ours()), timed(|| sides.rust())];
+    let calls = calls_in_a_round(once[0].min(once[1]));
+    let long = once[0] + once[1] > LONG;
+    for done in 0..most {
+        if start.elapsed() > enough && (done >= 3 || (long && done >= 1)) {
+            break;
+        }
+        ours.push(timed(|| (0..calls).for_each(|_| sides.ours())));
+        rust.push(timed(|| (0..calls).for_each(|_| sides.rust())));
+    }
+    (calls, [ours, rust])
+}
+
+/// Measures our side on as many small squares as make the large one, and on the large one.
+pub fn grown(workload: &Workload) -> Growth {
+    let (small, large) = GROWTH;
+    let times = (large / small) * (large / small);
+    let of = |side: usize, times: usize| -> f64 {
+        let mut inputs: Vec<_> = (0..times).map(|_| (workload.make)(side, side)).collect();
+        in_turn(&mut inputs)
+    };
+    let (small, large) = (of(small, times), of(large, 1));
+    Growth {
+        call: workload.call.to_owned(),
+        workload: workload.name.to_owned(),
+        small,
+        large,
+        growth: large / small,
+    }
+}
+
+/// Our side's nanoseconds per pixel over several inputs, one after another, the median of the rounds.
+fn in_turn(inputs: &mut [Box<dyn Sides>]) -> f64 {
+    let mut round = || timed(|| inputs.iter_mut().for_each(|sides| sides.ours()));
+    round();
+    let times = (0..GROWTH_ROUNDS).map(|_| round()).collect();
+    per_pixel(times, inputs.iter().map(|sides| sides.pixels()).sum())
+}
+
+fn timed(work: impl FnOnce()) -> Duration {
+    let start = Instant::now();
+    work();
+    start.elapsed()
+}
+
+fn calls_in_a_round(once: Duration) -> usize {
+    let calls = SHORT.as_nanos() / once.as_nanos().max(1);
+    calls.clamp(1, 1000) as usize
+}
+
+/// The median, in nanoseconds per pixel.
+fn per_pixel(mut times: Vec<Duration>, pixels: usize) -> f64 {
+    times.sort_unstable();
+    times[times.len() / 2].as_nanos() as f64 / pixels as f64
+}

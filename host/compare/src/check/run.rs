@@ -1,0 +1,266 @@
+//! Runs many cases of one call: with a seed, with progress, with a failing input made small.
+
+use std::panic::{catch_unwind, AssertUnwindSafe};
+use std::time::{Duration, Instant, SystemTime, UNIX_EPOCH};
+
+use super::case::{compare, Case, Compared};
+use super::damage::input;
+use super::lent::{arguments, Argument};
+use super::rng::Rng;
+use super::show;
+use super::shrink::shrink;
+use super::stored;
+use super::CALLS;
+use words::note;
+
+/// How many cases a call gets at least, unless `SAFETEAL_CASES` says otherwise.
+const CASES: u64 = 100_000;
+/// The seeds of every run; a fresh one from the clock is added.
+const SEEDS: [u64; 3] = [1, 2, 3];
+/// How often progress is shown.
+const SHOWN: Duration = Duration::from_secs(3);
+
+/// When a run ends.
+#[derive(Clone, Copy)]
+pub enum Until {
+    Cases(u64),
+    Time(Duration),
+}
+
+impl Until {
+    fn over(self, cases: u64, time: Duration) -> bool {
+        match self {
+            Until::Cases(most) => cases >= most,
+            Until::Time(most) => time >= most,
+        }
+    }
+}
+
+/// What a run did: cases by the number of their answer, and the time it took.
+#[derive(Clone, Default)]
+pub struct Tally {
+    pub by_number: [u64; 9],
+    pub counted: u64,
+    pub time: Duration,
+}
+
+impl Tally {
+    pub fn cases(&self) -> u64 {
+        self.by_number.iter().sum()
+    }
+
+    /// Cases a second.
+    pub fn rate(&self) -> f64 {
+        self.cases() as f64 / self.time.as_secs_f64().max(1e-9)
+    }
+
+    pub fn add(&mut self, other: &Tally) {
+        for (sum, cases) in self.by_number.iter_mut().zip(other.by_number) {
+            *sum += cases;
+        }
+        self.counted += other.counted;
+        self.time += other.time;
+    }
+
+    fn note(&mut self, answer: u64) {
+        self.by_number[(answer % 256) as usize] += 1;
+        self.counted += answer / 256;
+    }
+
+    /// One line: cases, rate, and how many answers had each number.
+    pub fn line(&self) -> String {
+        let numbers: Vec<String> = (0..9)
+            .filter(|&number| self.by_number[number] > 0)
+            .map(|number| format!("{number}: {}", self.by_number[number]))
+            .collect();
+        format!(
+            "{} cases, {:.0} a second ({})",
+            self.cases(),
+            self.rate(),
+            numbers.join(", ")
+        )
+    }
+}
+
+/// A call that can be compared, whatever the type of its inputs.
+pub struct Call {
+    /// Its number in the stored list.
+    pub id: u32,
+    pub name: &'static str,
+    /// The numbers it can answer.
+    pub numbers: &'static [usize],
+    run: fn(u64, Until) -> Result<Tally, String>,
+    alone: fn(u64, u64) -> Tally,
+    record: fn(u32, u64, usize) -> stored::Stored,
+}
+
+impl Call {
+    pub const fn of<C: Case>(id: u32) -> Self {
+        Self {
+            id,
+            name: C::NAME,
+            numbers: C::NUMBERS,
+            run: run::<C>,
+            alone: alone::<C>,
+            record: stored::record::<C>,
+        }
+    }
+
+    /// Compares until the end; the words of a failure can be pasted as a test.
+    pub fn run(&self, seed: u64, until: Until) -> Result<Tally, String> {
+        (self.run)(seed, until)
+    }
+
+    /// Our side alone, each slice in an allocation of exactly its length: for a run under a memory checker.
+    pub fn alone(&self, seed: u64, cases: u64) -> Tally {
+        (self.alone)(seed, cases)
+    }
+
+    /// The numbers that the call can answer and that no case of this run had.
+    pub fn unmet(&self, tally: &Tally) -> Vec<usize> {
+        let met = |number: &usize| tally.by_number[*number] > 0;
+        self.numbers
+            .iter()
+            .copied()
+            .filter(|number| !met(number))
+            .collect()
+    }
+
+    /// At most so many bytes of stored cases.
+    pub fn record(&self, seed: u64, bytes: usize) -> stored::Stored {
+        (self.record)(self.id, seed, bytes)
+    }
+}
+
+fn run<C: Case>(seed: u64, until: Until) -> Result<Tally, String> {
+    let trace = std::env::var_os("SAFETEAL_TRACE").is_some();
+    let start = Instant::now();
+    let (mut tally, mut shown) = (Tally::default(), start);
+    for index in 0.. {
+        let now = Instant::now();
+        tally.time = now - start;
+        if until.over(index, tally.time) {
+            break;
+        }
+        if now - shown >= SHOWN {
+            shown = now;
+            note(&format!("  {}, seed {seed}: {}", C::NAME, tally.line()));
+        }
+        if trace {
+            note(&format!("  {}, seed {seed}, case {index}", C::NAME));
+        }
+        let case = input::<C>(&mut Rng::of(seed, C::NAME, index));
+        let place = |words: String| {
+            let again = format!(
+                "SAFETEAL_SEED={seed} SAFETEAL_CASES={} SAFETEAL_CALLS={}",
+                index + 1,
+                C::NAME
+            );
+            format!(
+                "{}, seed {seed}, case {index} ({again} runs it again):\n{words}",
+                C::NAME
+            )
+        };
+        tally.note(judged(&case).map_err(place)?);
+    }
+    Ok(tally)
+}
+
+fn alone<C: Case>(seed: u64, cases: u64) -> Tally {
+    let start = Instant::now();
+    let mut tally = Tally::default();
+    for index in 0..cases {
+        let mut case = input::<C>(&mut Rng::of(seed, C::NAME, index));
+        arguments(&mut case).iter_mut().for_each(Argument::tighten);
+        tally.note(case.ours());
+    }
+    tally.time = start.elapsed();
+    tally
+}
+
+/// The right answer where both sides agree, else the words of the difference with a small input that has it.
+fn judged<C: Case>(case: &C) -> Result<u64, String> {
+    // A panic is the Rust's or this module's own: the proved library has none.
+    let Ok(compared) = catch_unwind(AssertUnwindSafe(|| compare(case))) else {
+        return Err(format!(
+            "a panic, and not by the library, on\n{}}}",
+            show::call(case)
+        ));
+    };
+    let Compared { answer, difference } = compared;
+    let Some(words) = difference else {
+        return Ok(answer);
+    };
+    note(&format!(
+        "  {}: {words}; looking for a smaller input",
+        C::NAME
+    ));
+    let small = shrink(case.clone());
+    let small_words = compare(&small).difference.unwrap_or_default();
+    Err(format!(
+        "{words}\nmade smaller: {small_words}\n{}",
+        show::test(&small)
+    ))
+}
+
+/// The seeds of a run: `SAFETEAL_SEED` alone, or the fixed ones and a fresh one.
+pub fn seeds() -> Vec<u64> {
+    if let Some(seed) = number("SAFETEAL_SEED") {
+        return vec![seed];
+    }
+    SEEDS.into_iter().chain([fresh_seed()]).collect()
+}
+
+/// A seed from the clock.
+pub fn fresh_seed() -> u64 {
+    let since = SystemTime::now()
+        .duration_since(UNIX_EPOCH)
+        .unwrap_or_default();
+    since.as_nanos() as u64 % 1_000_000_007
+}
+
+/// The one seed of a shorter run: `SAFETEAL_SEED`, or a fresh one.
+pub fn seed() -> u64 {
+    number("SAFETEAL_SEED").unwrap_or_else(fresh_seed)
+}
+
+/// The cases for each call in one run.
+///
+/// # Panics
+/// Where `SAFETEAL_CASES` asks for none: then nothing would be compared.
+pub fn cases() -> u64 {
+    let cases = number("SAFETEAL_CASES").unwrap_or(CASES);
+    assert!(cases > 0, "SAFETEAL_CASES must be 1 or more");
+    cases
+}
+
+/// The calls of these names, with commas between them, or words for one that there is not.
+pub fn named(list: &str) -> Result<Vec<&'static Call>, String> {
+    let call = |name: &str| {
+        let found = CALLS.iter().find(|call| call.name == name);
+        let names: Vec<&str> = CALLS.iter().map(|call| call.name).collect();
+        found.ok_or_else(|| format!("there is no call {name:?}; there are {}", names.join(", ")))
+    };
+    list.split(',').map(call).collect()
+}
+
+/// The calls that `SAFETEAL_CALLS` names, or all of them.
+///
+/// # Panics
+/// Where it names a call that there is not: then less would be compared than was asked for.
+pub fn wanted() -> Vec<&'static Call> {
+    let Ok(list) = std::env::var("SAFETEAL_CALLS") else {
+        return CALLS.iter().collect();
+    };
+    named(&list).unwrap_or_else(|words| panic!("SAFETEAL_CALLS: {words}"))
+}
+
+fn number(variable: &str) -> Option<u64> {
+    let text = std::env::var(variable).ok()?;
+    let number = text.parse().ok();
+    assert!(
+        number.is_some(),
+        "{variable} must be a whole number, not {text:?}"
+    );
+    number
+}

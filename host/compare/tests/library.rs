@@ -1,0 +1,214 @@
+//! The library's types and methods on the inputs of the differential run: the same bytes and answers as the C
+//! interface, and for each refusal an argument that is named.
+//!
+//! `SAFETEAL_SEED` sets the seed.
+#![cfg(not(oracle_absent))]
+
+use compare::check::case::{difference, Case};
+use compare::check::damage::input;
+use compare::check::layer::Number;
+use compare::check::rng::Rng;
+use compare::check::run::seed;
+use compare::check::{
+    apply, assemble, distances, empty, fit, hold, mask, peel, render, stats, unpeel,
+};
+use safeteal::{
+    Channel, Error, LayerMut, Limits, Mask, Motion, Parts, Plane, PlaneMut, Ratio, Refusal, Size,
+};
+
+const CASES: u64 = 4000;
+
+/// A case that can be put to the library.
+trait Through: Case {
+    /// The library's answer; none for numbers that its types cannot hold.
+    fn library(&mut self) -> Option<Result<u64, Error>>;
+}
+
+fn same<C: Through>() {
+    let seed = seed();
+    let (mut accepted, mut refused) = (0, 0);
+    for index in 0..CASES {
+        let place = format!("{}, seed {seed}, case {index}", C::NAME);
+        let case = input::<C>(&mut Rng::of(seed, C::NAME, index));
+        let (mut direct, mut through) = (case.clone(), case);
+        let word = direct.ours();
+        match through.library() {
+            None => continue,
+            Some(Ok(count)) => {
+                accepted += 1;
+                assert_eq!(256 * count, word, "{place}");
+            }
+            Some(Err(error)) => {
+                refused += 1;
+                let (refusal, words) = (error.refusal(), error.to_string());
+                assert_eq!(u64::from(refusal.number()), word, "{place}");
+                let named = !words.ends_with(&refusal.to_string());
+                assert!(named, "{place}: no argument is named: {words}");
+            }
+        }
+        assert_eq!(difference(&mut direct, &mut through, word), None, "{place}");
+    }
+    assert!(
+        accepted > 100 && refused > 0,
+        "{}, seed {seed}: {accepted} accepted, {refused} refused",
+        C::NAME
+    );
+}
+
+macro_rules! tests {
+    ($($name:ident: $case:ty,)*) => {
+        $(#[test]
+        fn $name() {
+            same::<$case>();
+        })*
+    };
+}
+
+tests! {
+    distances_through_the_library: distances::Distances,
+    mask_through_the_library: mask::Mask,
+    apply_through_the_library: apply::Apply,
+    hold_through_the_library: hold::Hold,
+    peel_through_the_library: peel::Peel<u8>,
+    unpeel_through_the_library: unpeel::Unpeel<u8>,
+    peel_numbers_through_the_library: peel::Peel<i16>,
+    unpeel_numbers_through_the_library: unpeel::Unpeel<i16>,
+    empty_through_the_library: empty::Empty,
+    stats_through_the_library: stats::Stats,
+    assemble_through_the_library: assemble::Assemble,
+    fit_through_the_library: fit::Fit,
+    render_through_the_library: render::Render,
+}
+
+fn done(answer: Result<(), Error>) -> Option<Result<u64, Error>> {
+    Some(answer.map(|()| 0))
+}
+
+impl Through for distances::Distances {
+    fn library(&mut self) -> Option<Result<u64, Error>> {
+        done(safeteal::distances(&mut self.cells, self.width))
+    }
+}
+
+impl Through for mask::Mask {
+    fn library(&mut self) -> Option<Result<u64, Error>> {
+        let size = Size::new(self.width, self.height);
+        let limits = Limits {
+            limit: self.limit,
+            edge: self.edge,
+            tolerance: self.tolerance,
+        };
+        let [first, second] =
+            [&self.first, &self.second].map(|data| Plane::pitched(data, size, self.pitch));
+        done(safeteal::mask(first, second, limits, &mut self.still))
+    }
+}
+
+impl Through for apply::Apply {
+    fn library(&mut self) -> Option<Result<u64, Error>> {
+        let size = Size::new(self.width, self.height);
+        let still = Mask::new(&self.still, self.still_width);
+        let output = PlaneMut::pitched(&mut self.output, size, self.output_pitch);
+        let [first, second] =
+            [&self.first, &self.second].map(|data| Plane::pitched(data, size, self.pitch));
+        done(safeteal::apply(output, first, second, still, self.time))
+    }
+}
+
+impl Through for hold::Hold {
+    fn library(&mut self) -> Option<Result<u64, Error>> {
+        let size = Size::new(self.width, self.height);
+        let mask = Mask::new(&self.mask, self.mask_width);
+        let held = Plane::pitched(&self.held, size, self.held_pitch);
+        let output = PlaneMut::pitched(&mut self.output, size, self.output_pitch);
+        done(safeteal::hold(output, held, mask))
+    }
+}
+
+impl<T: Number> Through for peel::Peel<T> {
+    fn library(&mut self) -> Option<Result<u64, Error>> {
+        let channel = Channel::of_number(self.plane)?;
+        let (lent, output, raw) = self.lent();
+        Some(lent.layer()?.peel(channel, output, raw))
+    }
+}
+
+impl<T: Number> Through for unpeel::Unpeel<T> {
+    fn library(&mut self) -> Option<Result<u64, Error>> {
+        let channel = Channel::of_number(self.plane)?;
+        let (lent, output, frames) = self.lent();
+        Some(lent.layer()?.unpeel(channel, output, frames))
+    }
+}
+
+impl Through for render::Render {
+    fn library(&mut self) -> Option<Result<u64, Error>> {
+        let channel = Channel::of_number(self.frames.plane)?;
+        let motion = self.motion.lent(self.frames.layer.size(0));
+        let (lent, output, frames) = self.frames.lent();
+        let answer = lent
+            .layer()?
+            .render(channel, output, frames, &motion, self.algo);
+        judged(answer, &motion)
+    }
+}
+
+/// An answer on a motion, where its blocks cover the frames. Where they do not, the library refuses what C takes.
+fn judged(answer: Result<u64, Error>, motion: &Motion<'_>) -> Option<Result<u64, Error>> {
+    match &answer {
+        Err(error) if error.to_string().contains("does not cover luma") => {
+            assert_eq!(error.refusal(), Refusal::Size);
+            assert!(!motion.covers(), "{error}");
+            None
+        }
+        _ => Some(answer),
+    }
+}
+
+impl Through for empty::Empty {
+    fn library(&mut self) -> Option<Result<u64, Error>> {
+        Some(self.layer.lent().layer()?.empty().map(u64::from))
+    }
+}
+
+impl Through for stats::Stats {
+    fn library(&mut self) -> Option<Result<u64, Error>> {
+        let (pairs, size) = (self.pairs, Size::new(self.width, self.height));
+        let ratio = Ratio::of_number(self.ratio)?;
+        let (luma, chroma, pair) = self.lent();
+        let answer = safeteal::stats(luma, chroma, pairs, size, ratio, &pair);
+        judged(answer.map(|()| 0), &pair.motion)
+    }
+}
+
+impl Through for assemble::Assemble {
+    fn library(&mut self) -> Option<Result<u64, Error>> {
+        let layer = LayerMut {
+            luma: &mut self.luma,
+            chroma: [&mut self.chroma1, &mut self.chroma2],
+        };
+        done(safeteal::assemble(
+            Size::new(self.width, self.height),
+            Ratio::of_number(self.ratio)?,
+            &self.models,
+            &self.cover,
+            layer,
+        ))
+    }
+}
+
+impl Through for fit::Fit {
+    fn library(&mut self) -> Option<Result<u64, Error>> {
+        let size = Size::new(self.width, self.height);
+        let ratio = Ratio::of_number(self.ratio)?;
+        let ([previous, own, next], settings, work, layer) = self.lent();
+        let [previous, next] =
+            [previous, next].map(|part| Some(part).filter(|part| part.pairs > 0));
+        let parts = Parts {
+            previous,
+            own,
+            next,
+        };
+        done(safeteal::fit(parts, size, ratio, settings, work, layer))
+    }
+}

@@ -1,0 +1,104 @@
+use std::fmt;
+
+numbered! {
+    /// Why a call was refused, as an [`Error`](crate::Error) says it. Where several reasons hold, the one with the
+    /// lowest number is given.
+    ///
+    /// ```
+    /// use safeteal::{distances, Refusal};
+    ///
+    /// let error = distances(&mut [0, 255], 0).unwrap_err();
+    /// assert_eq!(error.refusal(), Refusal::Size);
+    /// assert_eq!(error.refusal().number(), 1);
+    /// ```
+    #[non_exhaustive]
+    #[repr(u8)]
+    pub enum Refusal: u8 {
+        /// 1: a width or height outside 1 to 4096 (to [`distances`](crate::distances): a width of 0); or frames,
+        /// planes, sums or a motion that are not of one size and ratio; or a motion whose blocks do not cover its size.
+        Size = 1,
+        /// 2: a ratio other than 1, 2 or 4, or one that does not divide a size; or a mask without a whole step.
+        Ratio = 2,
+        /// 3: a pitch below its row's width or above 65,536.
+        Pitch = 3,
+        /// 4: a slice of a wrong length.
+        Length = 4,
+        /// 5: a motion number outside its range.
+        Motion = 5,
+        /// 6: a time, limit or evidence figure outside its range, or NaN.
+        Setting = 6,
+        /// 7: a number of pairs outside its range.
+        Pairs = 7,
+        /// 8: a chroma offset total that does not fit into 16 bits.
+        ChromaTotal = 8,
+    }
+}
+
+impl Refusal {
+    /// What an answer's number means; none for 0, which is acceptance.
+    ///
+    /// # Panics
+    /// For a number that no call gives: then this package and the linked library do not belong together.
+    pub(crate) fn answered(number: u8) -> Option<Self> {
+        let known = Self::of_number(number);
+        assert!(
+            number == 0 || known.is_some(),
+            "the linked library answered {number}, which is no number of a refusal"
+        );
+        known
+    }
+}
+
+impl fmt::Display for Refusal {
+    fn fmt(&self, f: &mut fmt::Formatter<'_>) -> fmt::Result {
+        f.write_str(match self {
+            Refusal::Size => {
+                "a width or height is outside 1 to 4096, or there is no such plane: \
+                 give the sizes of luma (of the plane itself to mask, apply and hold; to distances a width above 0)"
+            }
+            Refusal::Ratio => {
+                "the ratio is not 1, 2 or 4, or does not divide width and height: give luma pixels per chroma pixel \
+                 (to apply and hold: a mask 1 to 8 times as wide and as high as the plane, of exactly that length)"
+            }
+            Refusal::Pitch => {
+                "a pitch is below the width of its plane's row or above 65,536: give the distance between two rows' \
+                 starts"
+            }
+            Refusal::Length => {
+                "a slice has a wrong length: a plane needs (rows - 1) * pitch + width bytes, a layer slice \
+                 2 * pitch * rows numbers, and sums, models, covers, masks, motion fields and outputs exactly \
+                 their length"
+            }
+            Refusal::Motion => {
+                "a motion number is outside its range: grid sides 1 to 4096, block sides 1 to 128, \
+                 origins -4096 to 4096, pel 1, 2 or 4"
+            }
+            Refusal::Setting => {
+                "a setting is NaN or outside its range: time 0 to 1, limit 0.5 to 255, evidence figure 0 to 65,536"
+            }
+            Refusal::Pairs => {
+                "a part holds 1 to 12 pairs: start a new part after twelve, and fit none that has no pair, nor beside \
+                 one"
+            }
+            Refusal::ChromaTotal => {
+                "a chroma offset total is outside -32768 to 32767: the colour cast is too strong to be stored; \
+                 fit with another evidence figure or another limit"
+            }
+        })
+    }
+}
+
+#[cfg(test)]
+mod tests {
+    use super::Refusal;
+
+    #[test]
+    fn numbers_and_names_agree() {
+        assert_eq!(Refusal::answered(0), None);
+        for (index, &refusal) in Refusal::ALL.iter().enumerate() {
+            assert_eq!(usize::from(refusal.number()), index + 1);
+            assert_eq!(Refusal::answered(index as u8 + 1), Some(refusal));
+            assert!(!refusal.to_string().is_empty());
+        }
+    }
+}
