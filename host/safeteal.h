@@ -12,7 +12,8 @@
      4.                    the caller makes frames in between from the lifted ones
      5. safeteal_unpeel    for each of these and each plane: lays the lettering back
    safeteal_render can take the place of 3 to 5 near the lettering. safeteal_mask, safeteal_apply and safeteal_hold keep
-   still what stood still; they need no layer.
+   still what stood still; they need no layer. Where 2 and 3 happen at two desks, safeteal_parcel_write makes one run of
+   bytes of the layer, and safeteal_parcel_read a layer of these.
 
    Planes and pitches
    A frame has three planes of bytes: 0 is luma, of width by height pixels; 1 and 2 are chroma, of width / ratio by
@@ -32,10 +33,12 @@
      - Each length below is said to be exact or at least so much. Lengths are reckoned without overflow.
 
    Answers
-   All functions but the last two answer one number, count * 256 + number. Number 0 is acceptance, and the count is then
-   the pixels written by peel, unpeel and render, and 0 for the others (safeteal_empty has its yes there). Any other
-   number is a refusal, of enum safeteal_refusal; where several would do, it is the lowest. Its count is 0, and every
-   slice is as it was: the one exception is 8 in safeteal_fit, which leaves its three work slices in no certain state.
+   All functions but the last two answer one number, count * 256 + number; where sizes are answered as well, it is the
+   word of struct safeteal_sizes. Number 0 is acceptance, and the count is then the pixels written by peel, unpeel and
+   render, and 0 for the others (safeteal_empty has its yes there). Any other number is a refusal, of enum
+   safeteal_refusal; where several would do, it is the lowest, but safeteal_parcel_read tests 9, 10 and 11 before 4. Its
+   count is 0, and every slice is as it was: the one exception is 8 in safeteal_fit, which leaves its three work slices
+   in no certain state.
 
        uint64_t answer = safeteal_peel(..);
        enum safeteal_refusal number = safeteal_number(answer);
@@ -87,7 +90,18 @@ enum safeteal_refusal {
     SAFETEAL_REFUSED_MOTION = 5,
     SAFETEAL_REFUSED_SETTING = 6,
     SAFETEAL_REFUSED_PAIRS = 7,
-    SAFETEAL_REFUSED_CHROMA_TOTAL = 8
+    SAFETEAL_REFUSED_CHROMA_TOTAL = 8,
+    SAFETEAL_REFUSED_RECORD = 9,
+    SAFETEAL_REFUSED_KIND = 10,
+    SAFETEAL_REFUSED_PAYLOAD = 11
+};
+
+/* An answer with sizes: those of luma in pixels, and the ratio. All three are 0 when the call is refused. */
+struct safeteal_sizes {
+    uint64_t word; /* count * 256 + number */
+    size_t width;
+    size_t height;
+    size_t ratio;
 };
 
 static inline enum safeteal_refusal safeteal_number(uint64_t answer) {
@@ -113,7 +127,7 @@ static inline const char *safeteal_refusal_words(enum safeteal_refusal number) {
     case SAFETEAL_REFUSED_LENGTH:
         return "a slice has a wrong length: a plane has at least (rows - 1) * pitch + row width bytes, a layer's slice "
                "at least 2 * pitch * rows numbers; sums, models, covers, work slices, motion fields, the slice that "
-               "safeteal_mask fills and a layer that is written have exact lengths";
+               "safeteal_mask fills and a layer or parcel that is written have exact lengths";
     case SAFETEAL_REFUSED_MOTION:
         return "a motion number is outside its range: grid sides 1 to 4096, block sides 1 to 128, "
                "origins -4096 to 4096, pel 1, 2 or 4";
@@ -125,6 +139,15 @@ static inline const char *safeteal_refusal_words(enum safeteal_refusal number) {
     case SAFETEAL_REFUSED_CHROMA_TOTAL:
         return "a chroma offset total is outside -32768 to 32767: the colour cast is too strong to be stored; "
                "fit with another evidence figure or another limit";
+    case SAFETEAL_REFUSED_RECORD:
+        return "a record of the parcel is cut short: fewer than 6 bytes are left for its length and kind, or fewer "
+               "than its length for its payload";
+    case SAFETEAL_REFUSED_KIND:
+        return "the parcel's first record is not its head, of kind 1, or a kind is not 1 to 6, or stands twice, or is "
+               "missing";
+    case SAFETEAL_REFUSED_PAYLOAD:
+        return "the parcel's head has not 6 bytes, or its width or height is outside 1 to 4096, or its ratio is not "
+               "1, 2 or 4 or does not divide them; or a payload has not the length that the head calls for";
     }
     return "no number of this interface";
 }
@@ -153,7 +176,7 @@ static inline const char *safeteal_refusal_words(enum safeteal_refusal number) {
 
    Where the layer is lent as bytes (T is uint8_t) each number is two of them, the low one first: the lengths then count
    bytes and are at least twice these, an odd byte at the end is passed over, and the pitches still count numbers.
-   A layer that safeteal_fit or safeteal_assemble left has the pitches width and width / ratio. */
+   A layer that safeteal_fit, safeteal_assemble or safeteal_parcel_read left has the pitches width and width / ratio. */
 #define SAFETEAL_LAYER(T) \
     const T *luma, size_t luma_len, const T *chroma1, size_t chroma1_len, const T *chroma2, size_t chroma2_len, \
     size_t luma_pitch, size_t chroma_pitch, size_t width, size_t height, size_t ratio
@@ -323,6 +346,58 @@ uint64_t safeteal_empty(SAFETEAL_LAYER(int16_t));
    cells holds rows of `width` cells; the length is any, and width any but 0. Writes the complete rows, and leaves alone
    what is left over behind the last of them. */
 uint64_t safeteal_distances(uint8_t *SAFETEAL_RESTRICT cells, size_t cells_len, size_t width);
+
+/* ---- Sending a layer to another desk ---- */
+
+/* The bytes of a parcel of a layer of that size and ratio, which are ones that the calls take. */
+static inline size_t safeteal_parcel_length(size_t width, size_t height, size_t ratio) {
+    size_t luma = width * height, chroma = (width / ratio) * (height / ratio);
+    size_t cells = ((width + 7) / 8) * ((height + 7) / 8);
+    return 42 + 4 * luma + 4 * chroma + 2 * cells;
+}
+
+/* Writes a layer as a parcel, one run of bytes that tells its size and ratio itself.
+
+   A parcel is a run of records. A record is the length of its payload in bytes (4 bytes), its kind (2 bytes), and the
+   payload; then the next one begins. Of each number the low byte stands first. Lengths, kinds and the numbers of the
+   head are without sign; the others are numbers of a layer, of 16 bits with a sign, row after row without padding.
+
+       kind      payload                                  bytes of the payload
+       1         the head: width, height, ratio           6
+       2         the gains of luma                        2 * width * height
+       3         the offsets of luma                      2 * width * height
+       4, 5      the offsets of plane 1, of plane 2       2 * (width / ratio) * (height / ratio) each
+       6         the distances of the cells               2 * ((width + 7) / 8) * ((height + 7) / 8)
+
+   Writes all of parcel, the kinds in this order. What a layer has beside these numbers, padding and the rest of the
+   second halves of chroma1 and chroma2, is not sent. Exact length, which is
+   safeteal_parcel_length(width, height, ratio), 10.4 MB for 1920 by 1080 at ratio 2:
+
+       parcel                42 + 4 * width * height + 4 * (width / ratio) * (height / ratio)
+                             + 2 * ((width + 7) / 8) * ((height + 7) / 8) */
+uint64_t safeteal_parcel_write(SAFETEAL_LAYER(int16_t), uint8_t *SAFETEAL_RESTRICT parcel, size_t parcel_len);
+
+/* Reads a parcel into a layer with the pitches width and width / ratio, and answers the numbers of its head; when it is
+   refused, by 4 too, these are 0.
+
+   Any bytes may be lent. These tests follow each other, each over the whole parcel: no record is cut short (9); kind 1
+   stands first, and kinds 2 to 6 once each in any order (10); the head has 6 bytes, with a width, height and ratio that
+   the calls take, and each payload has the length of the table above for these (11). Then the slices are measured (4).
+
+   Writes all of luma, chroma1 and chroma2: the numbers that were sent, and 0 in the second halves of chroma1 and
+   chroma2 where there is no distance. Exact lengths, with width, height and ratio as the head has them, which
+   safeteal_parcel_sizes tells beforehand:
+
+       luma                  2 * width * height
+       chroma1, chroma2      2 * (width / ratio) * (height / ratio) each */
+struct safeteal_sizes safeteal_parcel_read(
+    const uint8_t *parcel, size_t parcel_len,
+    int16_t *SAFETEAL_RESTRICT luma, size_t luma_len, int16_t *SAFETEAL_RESTRICT chroma1, size_t chroma1_len,
+    int16_t *SAFETEAL_RESTRICT chroma2, size_t chroma2_len);
+
+/* The numbers of a parcel's head, after the tests of safeteal_parcel_read for 9, 10 and 11: that call accepts the
+   parcel with slices of the lengths that follow from them. Writes nothing. */
+struct safeteal_sizes safeteal_parcel_sizes(const uint8_t *parcel, size_t parcel_len);
 
 /* ---- What stood still; width and height are those of the plane itself ---- */
 

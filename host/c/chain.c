@@ -1,5 +1,6 @@
-/* The whole chain from C: a made-up clip with lettering, twelve pairs added up, the lettering found, lifted off frames,
-   and laid back onto a frame and onto one in between, with every refusal told in words.
+/* The whole chain from C: a made-up clip with lettering, twelve pairs added up, the lettering found, sent to another
+   desk as a parcel, lifted off frames there, and laid back onto a frame and onto one in between, with every refusal
+   told in words.
 
    To build it, in the project's root: cc -Ihost host/c/chain.c target/staticlib/libhost.a -o chain */
 #include <stdio.h>
@@ -70,6 +71,19 @@ static void free_frame(struct frame frame) {
     for (size_t plane = 0; plane < PLANES; plane++) {
         free(frame.plane[plane]);
     }
+}
+
+/* A layer without padding: two numbers for each pixel of luma, and two for each of a chroma plane. */
+static struct layer new_layer(size_t luma, size_t chroma) {
+    struct layer layer = {room(2 * luma, sizeof *layer.luma), room(2 * chroma, sizeof *layer.chroma1),
+                          room(2 * chroma, sizeof *layer.chroma2)};
+    return layer;
+}
+
+static void free_layer(struct layer layer) {
+    free(layer.luma);
+    free(layer.chroma1);
+    free(layer.chroma2);
 }
 
 /* ---- the made-up clip ---- */
@@ -162,6 +176,37 @@ static bool find(struct part part, struct layer layer) {
     free(kept);
     free(cover);
     return accepted("safeteal_fit", answer);
+}
+
+/* Writes a layer as a parcel. */
+static bool pack(struct layer layer, uint8_t *parcel, size_t length) {
+    return accepted("safeteal_parcel_write", safeteal_parcel_write(
+        layer.luma, 2 * PIXELS, layer.chroma1, 2 * CHROMA_PIXELS, layer.chroma2, 2 * CHROMA_PIXELS,
+        width_of(0), width_of(1), WIDTH, HEIGHT, RATIO, parcel, length));
+}
+
+/* Reads a parcel at the other desk, which has its bytes and nothing else. */
+static bool unpack(const uint8_t *parcel, size_t length, struct layer *layer) {
+    struct safeteal_sizes sizes = safeteal_parcel_sizes(parcel, length);
+    if (!accepted("safeteal_parcel_sizes", sizes.word)) {
+        return false;
+    }
+    size_t luma = sizes.width * sizes.height, chroma = luma / (sizes.ratio * sizes.ratio);
+    printf("the other desk has a parcel of %zu bytes, a layer of %zu by %zu\n", length, sizes.width, sizes.height);
+    *layer = new_layer(luma, chroma);
+    sizes = safeteal_parcel_read(
+        parcel, length, layer->luma, 2 * luma, layer->chroma1, 2 * chroma, layer->chroma2, 2 * chroma);
+    return accepted("safeteal_parcel_read", sizes.word) && sizes.width == WIDTH && sizes.height == HEIGHT &&
+           sizes.ratio == RATIO;
+}
+
+/* Sends a layer from the desk where it was fitted to another. */
+static bool deliver(struct layer fitted, struct layer *layer) {
+    size_t length = safeteal_parcel_length(WIDTH, HEIGHT, RATIO);
+    uint8_t *parcel = room(length, 1);
+    bool done = pack(fitted, parcel, length) && unpack(parcel, length, layer);
+    free(parcel);
+    return done;
 }
 
 /* Lifts the lettering off a frame. Only layered pixels are written, so the frame is copied first. */
@@ -314,15 +359,14 @@ static bool one_too_many(struct part *part) {
 int main(void) {
     struct part part = {room(6 * PIXELS, sizeof(float)), room(2 * CHROMA_PIXELS, sizeof(float)),
                         room(2 * CHROMA_PIXELS, sizeof(float)), 0};
-    struct layer layer = {room(2 * PIXELS, sizeof(int16_t)), room(2 * CHROMA_PIXELS, sizeof(int16_t)),
-                          room(2 * CHROMA_PIXELS, sizeof(int16_t))};
+    struct layer fitted = new_layer(PIXELS, CHROMA_PIXELS), layer = {NULL, NULL, NULL};
     printf("safeteal.h %s: %d pairs of frames of %d by %d\n", SAFETEAL_VERSION, PAIRS, WIDTH, HEIGHT);
-    bool right = add_all(&part) && find(part, layer) && lift_and_lay_back(layer) && one_too_many(&part);
+    bool right = add_all(&part) && find(part, fitted) && deliver(fitted, &layer) && lift_and_lay_back(layer) &&
+                 one_too_many(&part);
     free(part.luma);
     free(part.chroma1);
     free(part.chroma2);
-    free(layer.luma);
-    free(layer.chroma1);
-    free(layer.chroma2);
+    free_layer(fitted);
+    free_layer(layer);
     return right ? EXIT_SUCCESS : EXIT_FAILURE;
 }

@@ -25,7 +25,7 @@ static void check(bool right, const char *what, int line) {
 static void answers(void) {
     CHECK(safeteal_number(3 * 256 + 7) == SAFETEAL_REFUSED_PAIRS && safeteal_count(3 * 256 + 7) == 3);
     CHECK(safeteal_count(UINT64_MAX) == UINT64_MAX >> 8);
-    for (int a = SAFETEAL_ACCEPTED; a <= SAFETEAL_REFUSED_CHROMA_TOTAL + 1; a++) {
+    for (int a = SAFETEAL_ACCEPTED; a <= SAFETEAL_REFUSED_PAYLOAD + 1; a++) {
         for (int b = SAFETEAL_ACCEPTED; b < a; b++) {
             const char *words = safeteal_refusal_words((enum safeteal_refusal)a);
             CHECK(strcmp(words, safeteal_refusal_words((enum safeteal_refusal)b)) != 0);
@@ -71,8 +71,8 @@ static void each_refusal(void) {
     CHECK(answer == SAFETEAL_REFUSED_CHROMA_TOTAL && luma[0] == 7 && one[0] == 7 && two[0] == 7);
 }
 
-/* Where all slices are NULL with 0, each call comes back, with 4; a mask without cells is 2, and no cells at all are no
-   wrong length for distances. */
+/* Where all slices are NULL with 0, each call comes back, with 4; a mask without cells is 2, a parcel of no bytes 10,
+   and no cells at all are no wrong length for distances. */
 static void nothing_lent(void) {
     REFUSED(LENGTH, safeteal_stats(
         NOTHING, NOTHING, NOTHING, 0, 1, 1, 1, NOTHING, 1, NOTHING, 1, NOTHING, 1, NOTHING, 1, NOTHING, 1, NOTHING, 1,
@@ -94,6 +94,9 @@ static void nothing_lent(void) {
     REFUSED(LENGTH, safeteal_mask(NOTHING, NOTHING, 1, 1, 1, 0, 0, 0, NOTHING));
     REFUSED(RATIO, safeteal_apply(NOTHING, 1, NOTHING, NOTHING, 1, 1, 1, NOTHING, 1, 0));
     REFUSED(RATIO, safeteal_hold(NOTHING, 1, NOTHING, 1, 1, 1, NOTHING, 1));
+    REFUSED(LENGTH, safeteal_parcel_write(NOTHING, NOTHING, NOTHING, 1, 1, 1, 1, 1, NOTHING));
+    REFUSED(KIND, safeteal_parcel_read(NOTHING, NOTHING, NOTHING, NOTHING).word);
+    REFUSED(KIND, safeteal_parcel_sizes(NOTHING).word);
     CHECK(safeteal_distances(NOTHING, 1) == 0);
 }
 
@@ -323,6 +326,136 @@ static void distances(void) {
     CHECK(memcmp(cells, expected, 8) == 0);
 }
 
+/* ---- parcels ---- */
+
+/* A layer of 2 by 2 pixels at ratio 2 as a parcel, a record a row; they begin at bytes 0, 12, 26, 40, 48 and 56. */
+enum { PARCEL = 64 };
+static const uint8_t SENT[PARCEL] = {
+    6, 0, 0, 0, 1, 0, 2, 0, 2, 0, 2, 0,
+    8, 0, 0, 0, 2, 0, 1, 0, 2, 0, 253, 255, 4, 0,
+    8, 0, 0, 0, 3, 0, 5, 0, 6, 0, 7, 0, 0, 1,
+    2, 0, 0, 0, 4, 0, 247, 255,
+    2, 0, 0, 0, 5, 0, 10, 0,
+    2, 0, 0, 0, 6, 0, 245, 255,
+};
+
+/* The layer with rows of three numbers in luma and two in chroma, where 99 is not sent. */
+static void parcel_write(void) {
+    const int16_t luma[13] = {1, 2, 99, -3, 4, 99, 5, 6, 99, 7, 256, 99, 99};
+    const int16_t chroma1[4] = {-9, 99, 99, 99}, chroma2[4] = {10, 99, -11, 99};
+    uint8_t parcel[PARCEL + 1], before[PARCEL + 1];
+    memset(parcel, 7, sizeof parcel);
+    memset(before, 7, sizeof before);
+    CHECK(safeteal_parcel_length(2, 2, 2) == PARCEL && safeteal_parcel_length(1920, 1080, 2) == 10432842);
+    for (size_t length = 0; length <= PARCEL + 1; length++) {
+        if (length != PARCEL) {
+            REFUSED(LENGTH, safeteal_parcel_write(
+                luma, 13, chroma1, 4, chroma2, 4, 3, 2, 2, 2, 2, parcel, length));
+        }
+    }
+    REFUSED(LENGTH, safeteal_parcel_write(luma, 11, chroma1, 4, chroma2, 4, 3, 2, 2, 2, 2, parcel, PARCEL));
+    REFUSED(PITCH, safeteal_parcel_write(luma, 13, chroma1, 4, chroma2, 4, 1, 2, 2, 2, 2, parcel, PARCEL));
+    REFUSED(RATIO, safeteal_parcel_write(luma, 13, chroma1, 4, chroma2, 4, 3, 2, 2, 2, 3, parcel, PARCEL));
+    REFUSED(SIZE, safeteal_parcel_write(luma, 13, chroma1, 4, chroma2, 4, 3, 2, 2, 4097, 2, parcel, PARCEL));
+    CHECK(memcmp(parcel, before, sizeof parcel) == 0);
+    CHECK(safeteal_parcel_write(luma, 13, chroma1, 4, chroma2, 4, 3, 2, 2, 2, 2, parcel, PARCEL) == 0);
+    CHECK(memcmp(parcel, SENT, PARCEL) == 0 && parcel[PARCEL] == 7);
+}
+
+/* What a parcel is read into: the slices of a layer of 2 by 2 pixels at ratio 2, with a number more behind each. */
+struct unpacked {
+    int16_t luma[9], chroma1[3], chroma2[3];
+    struct safeteal_sizes sizes;
+};
+
+static const struct unpacked UNTOUCHED = {{7, 7, 7, 7, 7, 7, 7, 7, 7}, {7, 7, 7}, {7, 7, 7}, {0, 0, 0, 0}};
+
+static struct unpacked unpacked(const uint8_t *parcel, size_t length, size_t luma_len, size_t chroma2_len) {
+    struct unpacked layer = UNTOUCHED;
+    layer.sizes = safeteal_parcel_read(
+        parcel, length, layer.luma, luma_len, layer.chroma1, 2, layer.chroma2, chroma2_len);
+    return layer;
+}
+
+static bool same_numbers(const struct unpacked *a, const struct unpacked *b) {
+    return memcmp(a->luma, b->luma, sizeof a->luma) == 0 && memcmp(a->chroma1, b->chroma1, sizeof a->chroma1) == 0 &&
+           memcmp(a->chroma2, b->chroma2, sizeof a->chroma2) == 0;
+}
+
+static bool same_sizes(struct safeteal_sizes a, struct safeteal_sizes b) {
+    return a.word == b.word && a.width == b.width && a.height == b.height && a.ratio == b.ratio;
+}
+
+/* Whether a parcel is refused by that number, with sizes of 0, and nothing is written. */
+static bool turned_down(enum safeteal_refusal number, struct unpacked layer) {
+    const struct safeteal_sizes none = {(uint64_t)number, 0, 0, 0};
+    return same_sizes(layer.sizes, none) && same_numbers(&layer, &UNTOUCHED);
+}
+
+/* Whether the parcel was read as it was sent. */
+static bool received(const uint8_t *parcel) {
+    const struct unpacked sent = {{1, 2, -3, 4, 5, 6, 7, 256, 7}, {-9, 0, 7}, {10, -11, 7}, {0, 2, 2, 2}};
+    struct unpacked layer = unpacked(parcel, PARCEL, 8, 2);
+    return same_numbers(&layer, &sent) && same_sizes(layer.sizes, sent.sizes) &&
+           same_sizes(safeteal_parcel_sizes(parcel, PARCEL), sent.sizes);
+}
+
+/* Whether both calls refuse a parcel by that number. */
+static bool refused_by_both(enum safeteal_refusal number, const uint8_t *parcel, size_t length) {
+    struct unpacked layer = unpacked(parcel, length, 8, 2);
+    return turned_down(number, layer) && same_sizes(safeteal_parcel_sizes(parcel, length), layer.sizes);
+}
+
+static void parcel_read(void) {
+    CHECK(received(SENT));
+    /* Kinds 6 to 3, then 2. */
+    uint8_t other[PARCEL];
+    const size_t begins[7] = {0, 12, 26, 40, 48, 56, 64}, order[6] = {0, 5, 4, 3, 2, 1};
+    for (size_t at = 0, record = 0; record < 6; record++) {
+        size_t from = begins[order[record]], length = begins[order[record] + 1] - from;
+        memcpy(other + at, SENT + from, length);
+        at += length;
+    }
+    CHECK(received(other));
+
+    /* A slice of a wrong length is tested last, and the sizes are 0 then too. */
+    CHECK(turned_down(SAFETEAL_REFUSED_LENGTH, unpacked(SENT, PARCEL, 9, 2)));
+    CHECK(turned_down(SAFETEAL_REFUSED_LENGTH, unpacked(SENT, PARCEL, 8, 1)));
+    CHECK(turned_down(SAFETEAL_REFUSED_RECORD, unpacked(SENT, PARCEL - 1, 9, 1)));
+    REFUSED(LENGTH, safeteal_parcel_read(SENT, PARCEL, NOTHING, NOTHING, NOTHING).word);
+}
+
+/* Each cut, and single bytes that are changed. */
+static void parcel_refused(void) {
+    for (size_t length = 0; length < PARCEL; length++) {
+        bool whole = length == 0 || length == 12 || length == 26 || length == 40 || length == 48 || length == 56;
+        CHECK(refused_by_both(whole ? SAFETEAL_REFUSED_KIND : SAFETEAL_REFUSED_RECORD, SENT, length));
+    }
+    /* A byte's place, what it becomes, and the number that is given. */
+    const struct {
+        size_t at;
+        uint8_t byte;
+        enum safeteal_refusal number;
+    } changes[] = {
+        {0, 5, SAFETEAL_REFUSED_RECORD}, {15, 255, SAFETEAL_REFUSED_RECORD}, {56, 3, SAFETEAL_REFUSED_RECORD},
+        {4, 2, SAFETEAL_REFUSED_KIND}, {16, 1, SAFETEAL_REFUSED_KIND}, {17, 1, SAFETEAL_REFUSED_KIND},
+        {44, 5, SAFETEAL_REFUSED_KIND}, {60, 7, SAFETEAL_REFUSED_KIND}, {60, 0, SAFETEAL_REFUSED_KIND},
+        {6, 0, SAFETEAL_REFUSED_PAYLOAD}, {7, 255, SAFETEAL_REFUSED_PAYLOAD}, {8, 3, SAFETEAL_REFUSED_PAYLOAD},
+        {10, 3, SAFETEAL_REFUSED_PAYLOAD}, {10, 1, SAFETEAL_REFUSED_PAYLOAD}, {11, 1, SAFETEAL_REFUSED_PAYLOAD},
+    };
+    for (size_t change = 0; change < sizeof changes / sizeof *changes; change++) {
+        uint8_t parcel[PARCEL];
+        memcpy(parcel, SENT, PARCEL);
+        parcel[changes[change].at] = changes[change].byte;
+        CHECK(refused_by_both(changes[change].number, parcel, PARCEL));
+    }
+    /* A length of 4294967295, which wraps nowhere. */
+    uint8_t parcel[PARCEL];
+    memcpy(parcel, SENT, PARCEL);
+    memset(parcel + 12, 255, 4);
+    CHECK(refused_by_both(SAFETEAL_REFUSED_RECORD, parcel, PARCEL));
+}
+
 /* ---- what stood still ---- */
 
 static void mask(void) {
@@ -383,6 +516,9 @@ int main(void) {
     unpeel();
     render();
     distances();
+    parcel_write();
+    parcel_read();
+    parcel_refused();
     mask();
     apply();
     hold();

@@ -68,6 +68,9 @@ fn compiler() -> String {
     )
 }
 
+/// What the names of the C interface begin with.
+const PREFIX: &str = "safeteal_";
+
 /// In copy number n of a library each function begins so many bytes behind a multiple of so many. Where a loop stands
 /// within 64 bytes can cost it a quarter of its time, which says nothing of the code: so it is measured in every place.
 const PLACES: [(usize, usize); 8] = [
@@ -104,32 +107,34 @@ fn before(linked: &Path, out: &Path) {
             copies.push(name);
         }
     }
-    led(&exported(&now, &before), &copies, out);
+    let (both, absent) = exported(&now, &before);
+    led(&both, &absent, &copies, out);
     println!("cargo:rustc-link-search=native={}", out.display());
     println!("cargo:rustc-link-lib=static=copies");
     println!("cargo:rustc-cfg=before");
 }
 
-/// The functions of the C interface, which both libraries have.
-fn exported(now: &Path, before: &Path) -> Vec<String> {
-    let of = |library| {
-        let mut names = defined(library);
-        names.retain(|name| name.starts_with("safeteal_"));
-        names.sort();
-        names
-    };
-    let (now, before) = (of(now), of(before));
-    if now != before {
+/// The functions of the C interface that both libraries have, and those that only the present one has. At least one
+/// must be in both, or the other is no such library.
+fn exported(now: &Path, before: &Path) -> (Vec<String>, Vec<String>) {
+    let older = defined(before);
+    let mut names = defined(now);
+    names.retain(|name| name.starts_with(PREFIX));
+    names.sort();
+    let (both, absent) = names.into_iter().partition(|name| older.contains(name));
+    if Vec::is_empty(&both) {
         stop(&format!(
-            "the two libraries do not export the same functions: now {now:?}, before {before:?}"
+            "{} exports no function of the present library; SAFETEAL_BEFORE must name the folder of another libhost.a",
+            before.display()
         ));
     }
-    now
+    (both, absent)
 }
 
-/// In the program `bench` the linker leads each call of the C interface to a jump, and the jump goes where `PLACES`
-/// says: to a function of one of the copies. What is written here is the text of `src/copies.rs`.
-fn led(functions: &[String], copies: &[String], out: &Path) {
+/// In the program `bench` the linker leads each call of the C interface that both libraries have to a jump, and the
+/// jump goes where `PLACES` says: to a function of one of the copies. What is written here is the text of
+/// `src/copies.rs`.
+fn led(functions: &[String], absent: &[String], copies: &[String], out: &Path) {
     let arch = env::var("CARGO_CFG_TARGET_ARCH").unwrap_or_default();
     let mut jumps = String::new();
     for (at, name) in functions.iter().enumerate() {
@@ -151,11 +156,14 @@ fn led(functions: &[String], copies: &[String], out: &Path) {
     let all: Vec<Vec<String>> = copies.iter().map(of).collect();
     let declared = all.iter().flatten().map(|name| format!("fn {name}();\n"));
     let rows = all.iter().map(|names| format!("[{}],\n", names.join(", ")));
+    let calls = absent.iter().map(|name| name.trim_start_matches(PREFIX));
     let text = format!(
         "std::arch::global_asm!({:?});\nextern \"C\" {{\n{}}}\n\
-         const FUNCTIONS: usize = {};\nconst ALL: [[unsafe extern \"C\" fn(); FUNCTIONS]; {}] = [\n{}];\n",
+         pub const ABSENT: &[&str] = &{:?};\nconst FUNCTIONS: usize = {};\n\
+         const ALL: [[unsafe extern \"C\" fn(); FUNCTIONS]; {}] = [\n{}];\n",
         format!(".text\n{jumps}"),
         declared.collect::<String>(),
+        calls.collect::<Vec<_>>(),
         functions.len(),
         copies.len(),
         rows.collect::<String>(),

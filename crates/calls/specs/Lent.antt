@@ -6,7 +6,7 @@ use lib.IntN.{ℤ}
 use lib.Ieee.{Float}
 use Rattle.rules.specs.declared.Sums.{Sums}
 use Rattle.rules.specs.Forms.{Plane, Motion, Pair, Part, Parts, Fit, Layer, Frames, Mask}
-use Rattle.rules.specs.Calls.{StatsCall, FitCall, AssembleCall, PeelCall, UnpeelCall, RenderCall, Settings, MaskCall, ApplyCall, HoldCall}
+use Rattle.rules.specs.Calls.{StatsCall, FitCall, AssembleCall, PeelCall, UnpeelCall, RenderCall, ParcelWriteCall, ParcelReadCall, Settings, MaskCall, ApplyCall, HoldCall}
 
 -- ---- what is lent
 
@@ -92,6 +92,13 @@ unpeelCall layer plane output frames = record { layer = layer; plane = plane; ou
 abbrev pub renderCall : Layer → (plane : ℕ) → (output : Plane) → Frames → Motion → (algo : ℤ) → RenderCall
 renderCall layer plane output frames motion algo =
     record { layer = layer; plane = plane; output = output; frames = frames; motion = motion; algo = algo }
+
+-- the writer and the reader of parcels
+abbrev pub parcelWriteCall : Layer → (parcel : List ℕ) → ParcelWriteCall
+parcelWriteCall layer parcel = record { layer = layer; parcel = parcel }
+
+abbrev pub parcelReadCall : (parcel : List ℕ) → (output : Fit) → ParcelReadCall
+parcelReadCall parcel output = record { parcel = parcel; output = output }
 
 -- mask's three settings
 abbrev pub settingsOf : (limit edge tolerance : Float) → Settings

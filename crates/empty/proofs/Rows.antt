@@ -3,8 +3,8 @@
 use mathlib.Core.Path.{_≡_, refl, ap, _∙_}
 use mathlib.Core.Bool.{Bool, true, false, _&&_}
 use mathlib.Core.Logic.{⊎-elim}
-use Prim.Native.Nat.{ℕ, zero, suc, _-_, _*_, _/_, _^_, _≤_, _<_}
-use native.Mathlib.Nat.{eq-or-lt-of-le, mul-le-mul-left}
+use Prim.Native.Nat.{ℕ, zero, suc, _-_, _^_, _<_}
+use native.Mathlib.Nat.{eq-or-lt-of-le}
 use native.Mathlib.Omega.{arith}
 use borrow.Author.Tests.{ne-eqb}
 use lib.Dec.{eqb}
@@ -14,6 +14,7 @@ use mir.Syntax.{w16}
 use mir.Val.{ofZ}
 use Rattle.rules.specs.Forms.{turns, all, each, cells, isNumber}
 use Rattle.rules.specs.Refusals.{firstFitting, emptyRefusal}
+use Rattle.laws.proofs.Accepted.{cells-in}
 use Rattle.layer_lent.specs.declared.Shape.{Shape}
 use Rattle.layer_lent.specs.Lent.{Numbers, Bytes, lay, planOf}
 use Rattle.plane.specs.Slices.{slice}
@@ -38,10 +39,6 @@ all-false (suc n) k test below e =
     and-false : (b : Bool) → (b && false) ≡ false
     and-false true = refl
     and-false false = refl
-
--- there are as many cells as chroma pixels along a side, at most
-cells-in : (n r : ℕ) → r ≤ 4 → n / r * r ≡ n → cells n ≤ n / r
-cells-in n r few whole = let m = mul-le-mul-left (n / r) few in omega arith
 
 -- the rows of cells of a layer that is not refused
 pub in-rows : (s : Shape) (numbers : Numbers) (bytes : Bytes) → s .plane ≡ 0 → emptyRefusal (lay s numbers bytes) ≡ 0

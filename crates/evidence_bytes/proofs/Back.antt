@@ -1,79 +1,39 @@
 -- Numbers written as bytes are read back, and what fit leaves is such numbers. Assumes nothing.
-use mathlib.Core.Path.{_≡_, refl, sym, ap, subst₂, _∙_}
+use mathlib.Core.Path.{_≡_, refl, sym, subst₂}
 use mathlib.Core.Bool.{Bool, true, false, not, cond, _&&_}
-use mathlib.Core.List.{List, [], _∷_}
+use mathlib.Core.List.{List}
 use Prim.Native.Nat.{ℕ, zero, suc, _+_, _-_, _*_, _/_, _%_, _≤_, _<_}
 use native.Mathlib.Omega.{arith}
-use borrow.Author.Tests.{leb-true, ltb-true, le-leb, lt-ltb, le-ltb}
-use lib.Dec.{T, leb, ltb, ltb→lt, nltb→le}
-use lib.IntN.{ℤ, pos, negsuc, negℤ, natAbs}
-use lib.Signed.{leZ}
-use lib.ListN.{length, getD}
+use borrow.Author.Tests.{ltb-true, le-leb}
+use lib.Dec.{T, ltb, ltb→lt, nltb→le}
+use lib.IntN.{ℤ, pos, negsuc, natAbs}
+use lib.ListN.{getD}
 use lib.Ieee.{Float}
 use Rattle.rules.specs.Literals.{64·0, 4096·0}
 use Rattle.rules.specs.Float.{stored}
 use Rattle.rules.specs.Forms.{Fit, turns, tabulate, all, each, area, shrunk, cells}
 use Rattle.rules.specs.Calls.{FitCall}
-use Rattle.rules.specs.Host.{signed16, entry, numbers}
-use Rattle.rules.specs.Refusals.{firstFitting, fitTable}
+use Rattle.rules.specs.Host.{numbers}
+use Rattle.rules.specs.Refusals.{fitTable}
 use Rattle.rules.specs.Model.{Fitted}
 use Rattle.rules.specs.Keeping.{modelOf}
 use Rattle.rules.specs.Assembly.{lumaEntry, chromaTotal, totalsFit, cellEntry, assembled}
 use Rattle.rules.specs.Reading.{asLeft}
 use Rattle.rules.specs.Fit.{fitModels, fitCover, fitRefusal, fitLeaves}
-use Rattle.laws.proofs.Lists.{table-same}
+use Rattle.laws.proofs.Lists.{each-table}
+use Rattle.rules.specs.Parcel.{inBytes, isShort, written}
 use Rattle.laws.proofs.Accepted.{both, row-right}
+use Rattle.laws.proofs.Bytes.{read-back as bytes-back}
 use Rattle.laws.proofs.Points.{stored-small}
 use Rattle.evidence.specs.Evidence.{Keeps}
 use Rattle.evidence.proofs.Growth.{cover-fits}
 use Rattle.evidence.proofs.Theorem.{demand-three}
-use Rattle.evidence_bytes.specs.Written.{bits, written, isShort, ReadBack, throughBytes, LeftShort, DemandThreeBytes, Example}
-
--- ---- a number and its two bytes
-
-joined : (n : ℕ) → n % 256 + 256 * (n / 256) ≡ n
-joined n = omega arith
-
-bits-back : (z : ℤ) → isShort z ≡ true → signed16 (bits z) ≡ z
-bits-back (pos n) s = let h = leb-true n 32767 s in rw (lt-ltb n 32768 (omega arith))
-bits-back (negsuc n) s =
-    let h = leb-true n 32767 (both (leb n 32767) true s .0) in
-    let again : 65536 - suc (65535 - n) ≡ n = omega arith in
-    rw (le-ltb (65535 - n) 32768 (omega arith), lt-ltb (65535 - n) 65536 (omega arith), again)
-
-number-back : (z : ℤ) → isShort z ≡ true → signed16 (bits z % 256 + 256 * (bits z / 256)) ≡ z
-number-back z s = rw (joined (bits z)) (bits-back z s)
-
--- ---- a list and its bytes
-
--- two bytes before the rest are a number before the rest
-numbers-after : (low high : ℕ) (rest : List ℕ) → numbers (low ∷ high ∷ rest) ≡ signed16 (low + 256 * high) ∷ numbers rest
-unfolding numbers tabulate
-numbers-after low high rest =
-    let one-more : suc (suc (length rest)) / 2 ≡ suc (length rest / 2) = omega arith in
-    rw one-more
-    (ap (λ (l : List ℤ). signed16 (low + 256 * high) ∷ l)
-    (table-same (length rest / 2) (λ k. entry (low ∷ high ∷ rest) (suc k)) (entry rest) (λ k h. later k)))
-  where
-    later : (k : ℕ) → entry (low ∷ high ∷ rest) (suc k) ≡ entry rest k
-    later k =
-        let even : suc k * 2 ≡ suc (suc (k * 2)) = omega arith in
-        let odd : suc (suc (k * 2)) + 1 ≡ suc (suc (k * 2 + 1)) = omega arith in
-        rw (even, odd)
+use Rattle.evidence_bytes.specs.Written.{ReadBack, throughBytes, LeftShort, DemandThreeBytes, Example}
 
 pub read-back : ReadBack
-unfolding written each numbers tabulate
-read-back [] s = refl
-read-back (z ∷ rest) s =
-    let t = both (isShort z) (each isShort rest) s in
-    numbers-after (bits z % 256) (bits z / 256) (written rest) ∙ rw (number-back z (t .0), read-back rest (t .1))
+read-back = bytes-back
 
 -- ---- what fit leaves
-
-each-table : (test : ℤ → Bool) (n : ℕ) (f : ℕ → ℤ) → ((k : ℕ) → k < n → test (f k) ≡ true) → each test (tabulate n f) ≡ true
-unfolding each tabulate
-each-table test zero f h = refl
-each-table test (suc n) f h = rw (h zero (omega arith)) (each-table test n (λ k. f (suc k)) (λ k b. h (suc k) (omega arith)))
 
 all-at : (test : ℕ → Bool) (n : ℕ) → all n test ≡ true → (k : ℕ) → k < n → test k ≡ true
 unfolding all turns
@@ -148,5 +108,5 @@ demand-three-bytes first second t ok ok' =
     (demand-three first second t ok ok')
 
 pub shown : Example
-unfolding written each numbers tabulate
+unfolding written inBytes each numbers tabulate
 shown = record { bytes = refl; short = refl; read = refl }

@@ -1,33 +1,18 @@
 -- Demand 3 where the layer is lent as bytes: what fit left is written as bytes, and the later call reads the numbers
 -- that these stand for.
 use mathlib.Core.Path.{_≡_}
-use mathlib.Core.Bool.{Bool, true}
+use mathlib.Core.Bool.{true}
 use mathlib.Core.List.{List, [], _∷_}
-use Prim.Native.Nat.{ℕ, _-_, _/_, _%_}
-use lib.IntN.{ℤ, pos, negsuc, negℤ}
+use lib.IntN.{ℤ, pos, negℤ}
 use Rattle.rules.specs.Forms.{Fit, Layer, each}
 use Rattle.rules.specs.Calls.{FitCall}
-use Rattle.rules.specs.Domain.{spans}
 use Rattle.rules.specs.Host.{numbers}
+use Rattle.rules.specs.Parcel.{isShort, written}
 use Rattle.rules.specs.Fit.{fitRefusal, fitLeaves}
 use Rattle.rules.specs.Reading.{asLeft}
 use Rattle.evidence.specs.Evidence.{FitTwice, Keeps}
 
--- ---- numbers as bytes
-
--- the 16 bits of a number, as `signed16` of Host.antt reads them
-abbrev pub bits : ℤ → ℕ
-bits (pos n) = n
-bits (negsuc n) = 65535 - n
-
--- "little-endian i16 bytes, two for each number"
-unfoldable pub written : List ℤ → List ℕ
-written [] = []
-written (z ∷ rest) = bits z % 256 ∷ bits z / 256 ∷ written rest
-
--- whether a number has 16 bits
-abbrev pub isShort : ℤ → Bool
-isShort z = spans (negℤ (pos 32768)) (pos 32767) z
+-- ---- numbers as bytes: `written` of Parcel.antt
 
 -- bytes that were written so stand for the numbers that were written
 abbrev pub ReadBack : Type 0

@@ -4,12 +4,12 @@
 use layer_lent::Shape;
 use motion::Grid;
 ghost use Rattle.calls.specs.Lent.{planeOf, fitOf};
-ghost use Rattle.layer_lent.specs.Lent.{outputBy, framesBy};
+ghost use Rattle.layer_lent.specs.Lent.{ofNumbers, outputBy, framesBy};
 ghost use Rattle.motion.specs.Moves.{motionOf};
 ghost use Rattle.fit_refuse.specs.Call.{fitBy};
 ghost use Rattle.evidence.specs.Evidence.{peelLuma, unpeelLuma, renderPlane};
 ghost use Rattle.evidence_calls.specs.Calls.{FitTold, LaterTold};
-ghost use Rattle.evidence_host.specs.Layers.{ofNumbers, ofBytes};
+ghost use Rattle.evidence_host.specs.Layers.{ofBytes};
 
 // A fit.
 pub fn fit<'s>(

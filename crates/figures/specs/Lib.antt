@@ -1,2 +1,3 @@
 pub mod P
 pub mod Others
+pub mod Parcels

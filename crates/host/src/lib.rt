@@ -3,10 +3,11 @@
 use fit_trial::Settings;
 use layer_lent::Shape;
 use motion::Grid;
+use rules::Sizes;
 ghost use mathlib.Core.Path.{_≡_};
 ghost use Rattle.rules.specs.Forms.{uncounted};
 ghost use Rattle.rules.specs.Calls.{DistancesCall};
-ghost use Rattle.rules.specs.Refusals.{statsRefusal, distancesRefusal, maskRefusal, applyRefusal, holdRefusal};
+ghost use Rattle.rules.specs.Refusals.{statsRefusal, distancesRefusal, parcelWriteRefusal, maskRefusal, applyRefusal, holdRefusal};
 ghost use Rattle.rules.specs.Float.{pixel as pixelOf, stored};
 ghost use Rattle.rules.specs.Distances.{distancesLeaves};
 ghost use Rattle.rules.specs.Reading.{emptyAnswer};
@@ -18,8 +19,10 @@ ghost use Rattle.rules.specs.Render.{renderAnswer, renderLeaves};
 ghost use Rattle.rules.specs.Stats.{statsLeaves};
 ghost use Rattle.rules.specs.Still.{maskLeaves, applyLeaves, holdLeaves};
 ghost use Rattle.rules.specs.Host.{numbers, replyWord};
+ghost use Rattle.rules.specs.Parcel.{parcelWriteLeaves, parcelSizesAnswer};
 ghost use Rattle.calls.specs.Lent.{planeOf, maskOf, framesOf, layerOf, motionBy, pairOf, partOf, partsOf, fitOf};
-ghost use Rattle.calls.specs.Lent.{statsCall, fitCall, assembleCall, peelCall, unpeelCall, renderCall, settingsOf, maskCall, applyCall, holdCall};
+ghost use Rattle.calls.specs.Lent.{statsCall, fitCall, assembleCall, peelCall, unpeelCall, renderCall, parcelWriteCall, settingsOf, maskCall, applyCall, holdCall};
+ghost use Rattle.parcel_read.specs.Read.{readBy, ReadTold};
 ghost use Rattle.told.specs.Told.{Told, ToldThree, WorkStays};
 
 #[no_mangle]
@@ -610,6 +613,66 @@ pub extern "C" fn safeteal_render<'n, 'f, 'm>(
         grid,
         algo,
     ))
+}
+
+#[no_mangle]
+pub extern "C" fn safeteal_parcel_write<'n>(
+    luma: &'n [i16],
+    chroma1: &'n [i16],
+    chroma2: &'n [i16],
+    luma_pitch: usize,
+    chroma_pitch: usize,
+    width: usize,
+    height: usize,
+    ratio: usize,
+    parcel: &mut [u8],
+) -> u64
+    ensures { λ r. ⌜
+        (let c = parcelWriteCall
+        (layerOf
+        (now (luma .entry)) (now (chroma1 .entry)) (now (chroma2 .entry))
+        «luma_pitch» «chroma_pitch» width height ratio)
+        (now (parcel .entry)) in
+        Told (uncounted (parcelWriteRefusal c)) (parcelWriteLeaves c) (now (parcel .exit)) r) ⌝ }
+{
+    let shape = Shape {
+        packed: false,
+        luma_pitch,
+        chroma_pitch,
+        width,
+        height,
+        ratio,
+        plane: 0,
+        output_pitch: 0,
+        first_pitch: 0,
+        second_pitch: 0,
+        time: 0.0,
+    };
+    let none = [0u8; 1];
+    let bytes = [&none[..], &none[..], &none[..]];
+    told::number(parcel_write::write(parcel, shape, [luma, chroma1, chroma2], bytes))
+}
+
+#[no_mangle]
+pub extern "C" fn safeteal_parcel_read(
+    parcel: &[u8],
+    luma: &mut [i16],
+    chroma1: &mut [i16],
+    chroma2: &mut [i16],
+) -> Sizes
+    ensures { λ r. ⌜
+        ReadTold
+        (readBy (now (parcel .entry)) (now (luma .entry)) (now (chroma1 .entry)) (now (chroma2 .entry)))
+        (now (luma .exit)) (now (chroma1 .exit)) (now (chroma2 .exit)) r ⌝ }
+{
+    parcel_read::read(luma, chroma1, chroma2, parcel)
+}
+
+#[no_mangle]
+pub extern "C" fn safeteal_parcel_sizes(parcel: &[u8]) -> Sizes
+    ensures { λ r. ⌜ r ≡ parcelSizesAnswer (now (parcel .entry)) ⌝ }
+{
+    parcel_read::sizes_of(parcel)
 }
 
 // The final rounding and the storing by themselves, for a run over all floats.

@@ -3,12 +3,12 @@ use mathlib.Core.Path.{_≡_, refl, sym, _∙_}
 use mathlib.Core.Bool.{Bool, true, false, not, cond, _&&_, _||_, false≢true}
 use mathlib.Core.List.{List, [], _∷_}
 use Prim.Native.Nat.{ℕ, zero, suc, _+_, _-_, _*_, _/_, _%_, _≤_, _<_}
-use native.Mathlib.Nat.{mul-le-mul-right, div-add-mod', div-le-self, le-trans, zero-mul}
+use native.Mathlib.Nat.{mul-le-mul-left, mul-le-mul-right, div-add-mod', div-le-self, le-trans, zero-mul}
 use native.Mathlib.Omega.{arith}
 use borrow.Author.Tests.{leb-true, eqb-true, eqb-false, not-true, not-false}
 use lib.Dec.{leb, eqb}
 use lib.ListN.{length, getD}
-use Rattle.rules.specs.Forms.{Plane, Layer, planeSize, each}
+use Rattle.rules.specs.Forms.{Plane, Layer, planeSize, each, cells}
 use Rattle.rules.specs.Domain.{isSize, isRatio, areSizes, isPitch, isPlane, areExact}
 use Rattle.rules.specs.Refusals.{_unless_, Table, firstFitting, layerRows}
 
@@ -77,6 +77,10 @@ part-in n r h e = (some (n / r) e, le-trans (div-le-self n r) (h .1))
     some : (q : ℕ) → q * r ≡ n → 1 ≤ q
     some zero e = let z = zero-mul r in absurd (omega arith)
     some (suc q) e = omega arith
+
+-- there are as many cells as chroma pixels along a side, at most
+pub cells-in : (n r : ℕ) → r ≤ 4 → n / r * r ≡ n → cells n ≤ n / r
+cells-in n r few whole = let m = mul-le-mul-left (n / r) few in omega arith
 
 pub record Shrinks (size : ℕ × ℕ) (ratio : ℕ) : Type 0 where
   pub few : (1 ≤ ratio) × (ratio ≤ 4)

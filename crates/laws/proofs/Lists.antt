@@ -1,15 +1,16 @@
--- Laws of `tabulate`, `turns`, `any` and `howMany`. Assumes nothing.
+-- Laws of `tabulate`, `each`, `turns`, `any` and `howMany`. Assumes nothing.
 use mathlib.Core.Path.{_≡_, refl, sym, ap, _∙_}
 use mathlib.Core.Bool.{Bool, true, false, not, cond, _||_}
-use mathlib.Core.List.{List}
+use mathlib.Core.List.{List, [], _∷_, _++_}
 use Prim.Native.Nat.{ℕ, zero, suc, _+_, _*_, _≤_, _<_}
-use native.Mathlib.Nat.{add-mul, mul-comm}
+use native.Mathlib.Nat.{zero-add, add-mul, mul-comm}
 use native.Mathlib.Omega.{arith}
 use lib.Dec.{T, ltb, nltb→le, ltb→lt}
 use lib.ListN.{length, getD, List·getD-eq-default}
 use lib.Seq.{ext-getD}
 use lib.Arith.{digits-lt}
-use Rattle.rules.specs.Forms.{turns, tabulate, any, howMany}
+use Rattle.rules.specs.Forms.{turns, tabulate, any, each, howMany}
+use Rattle.laws.proofs.Accepted.{both}
 
 -- one of two that are at most n
 pub either : (t : Bool) (a b n : ℕ) → a ≤ n → b ≤ n → cond t a b ≤ n
@@ -57,6 +58,20 @@ table-same (suc n) f g same =
     let t = table-same n (λ k. f (suc k)) (λ k. g (suc k)) (λ k b. same (suc k) (omega arith)) in
     rw (h, t)
 
+-- a table in two parts
+pub tabulate-add : {A : Type 0} (m n : ℕ) (f : ℕ → A) → tabulate (m + n) f ≡ tabulate m f ++ tabulate n (λ k. f (m + k))
+unfolding tabulate
+tabulate-add zero n f = rw (zero-add n) (table-same n f (λ k. f (0 + k)) (λ k h. ap f (sym (zero-add k))))
+tabulate-add (suc m) n f =
+    let e : suc m + n ≡ suc (m + n) = omega arith in
+    let rest = table-same n (λ k. f (suc (m + k))) (λ k. f (suc m + k)) (λ k h. let s : suc (m + k) ≡ suc m + k = omega arith in ap f s) in
+    rw e (rw (tabulate-add m n (λ k. f (suc k)), rest))
+
+-- and with an entry more at its end
+pub tabulate-last : {A : Type 0} (n : ℕ) (f : ℕ → A) → tabulate (n + 1) f ≡ tabulate n f ++ f n ∷ []
+unfolding tabulate
+tabulate-last n f = tabulate-add n 1 f ∙ let e : n + 0 ≡ n = omega arith in rw e
+
 -- a fact of two tables at place k: it holds of the entries, and of two defaults
 pub tabulate-both : {A B : Type 0} (R : A → B → Type 0) (n : ℕ) (f : ℕ → A) (g : ℕ → B) (a : A) (b : B)
     → (k : ℕ) → (k < n → R (f k) (g k)) → R a b → R (getD (tabulate n f) k a) (getD (tabulate n g) k b)
@@ -65,6 +80,21 @@ tabulate-both R n f g a b k inside default = go (ltb k n) (ltb→lt k n) (nltb�
     go : (t : Bool) → (T t → k < n) → (T (not t) → n ≤ k) → R (getD (tabulate n f) k a) (getD (tabulate n g) k b)
     go true h l = rw (getD-tabulate n f k a (h tt), getD-tabulate n g k b (h tt)) (inside (h tt))
     go false h l = rw (getD-beyond n f k a (l tt), getD-beyond n g k b (l tt)) default
+
+-- ---- each
+
+-- a test that each entry of a table passes
+pub each-table : {A : Type 0} (test : A → Bool) (n : ℕ) (f : ℕ → A) → ((k : ℕ) → k < n → test (f k) ≡ true) → each test (tabulate n f) ≡ true
+unfolding each tabulate
+each-table test zero f h = refl
+each-table test (suc n) f h = rw (h zero (omega arith)) (each-table test n (λ k. f (suc k)) (λ k b. h (suc k) (omega arith)))
+
+-- a test that each entry of a list passes, and the default: whatever is read there does
+pub each-at : {A : Type 0} (test : A → Bool) (list : List A) (d : A) → each test list ≡ true → test d ≡ true → (k : ℕ) → test (getD list k d) ≡ true
+unfolding each
+each-at test [] d e h k = h
+each-at test (a ∷ rest) d e h zero = both (test a) (each test rest) e .0
+each-at test (a ∷ rest) d e h (suc k) = each-at test rest d (both (test a) (each test rest) e .1) h k
 
 -- ---- turns, any and howMany
 

@@ -39,6 +39,10 @@ part s numbers bytes k = lent (s .packed) (slice numbers k) (slice bytes k)
 abbrev pub lay : Shape → Numbers → Bytes → Layer
 lay s numbers bytes = holding s (part s numbers bytes 0) (part s numbers bytes 1) (part s numbers bytes 2)
 
+-- the same of slices that are numbers
+abbrev pub ofNumbers : Shape → Numbers → Layer
+ofNumbers s numbers = holding s (slice numbers 0) (slice numbers 1) (slice numbers 2)
+
 -- the output
 abbrev pub outputBy : Shape → List ℕ → Plane
 outputBy s output = planeOf output (s .«output_pitch»)

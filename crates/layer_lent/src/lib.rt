@@ -40,7 +40,7 @@ pub struct Plan {
 }
 
 // Two bytes as a signed number.
-fn joined(low: u8, high: u8) -> i16
+pub fn joined(low: u8, high: u8) -> i16
     ensures { λ r. ⌜ r ≡ signed16 (low + 256 * high) ⌝ }
 {
     let n = low as u16 + 256 * (high as u16);

@@ -58,6 +58,16 @@ pub record RenderCall : Type 0 where
   pub motion : Motion
   pub algo : ℤ
 
+-- "A reader and a writer are needed" (02): a layer, and `parcel` what its records are written into
+pub record ParcelWriteCall : Type 0 where
+  pub layer : Layer
+  pub parcel : List ℕ
+
+-- a parcel as it came, and `output` what is filled
+pub record ParcelReadCall : Type 0 where
+  pub parcel : List ℕ
+  pub output : Fit
+
 -- "the three settings of `mask`"
 pub record Settings : Type 0 where
   pub limit : Float

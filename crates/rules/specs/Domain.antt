@@ -70,6 +70,11 @@ fieldLength grid = area grid
 abbrev pub maskLength : ℕ × ℕ → ℕ
 maskLength size = area size
 
+-- a parcel (02): six records, each a "payload length (four bytes), kind (two bytes)" and a payload: the head's "two
+-- bytes each" for three numbers, and "two bytes signed" for each gain, offset and cell
+abbrev pub parcelLength : ℕ × ℕ → (ratio : ℕ) → ℕ
+parcelLength size ratio = 6 * 6 + 6 + 2 * (2 * area size + 2 * area (shrunk size ratio) + coverLength size)
+
 -- ---- slices of these lengths
 
 -- a byte plane

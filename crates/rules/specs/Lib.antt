@@ -20,3 +20,4 @@ pub mod Render
 pub mod Stats
 pub mod Still
 pub mod Host
+pub mod Parcel

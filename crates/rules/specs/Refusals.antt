@@ -3,8 +3,8 @@ use Rattle.rules.specs.Words.{Bool, cond, not, _&&_, _||_, List, [], _�
 use Rattle.rules.specs.Literals.{0·0, 0·5, 255·0, 65536·0}
 use Rattle.rules.specs.Float.{within}
 use Rattle.rules.specs.Forms.{Plane, Motion, Pair, Part, Layer, shrunk, planeSize}
-use Rattle.rules.specs.Calls.{StatsCall, FitCall, AssembleCall, DistancesCall, PeelCall, UnpeelCall, RenderCall, MaskCall, ApplyCall, HoldCall}
-use Rattle.rules.specs.Domain.{keptLength, maskLength, areSizes, isRatio, havePitches, haveLengths, areSums, isFit, areModels, isCover, layerPitches, layerLengths, motionLengths, motionNumbers, isTime, areSteps}
+use Rattle.rules.specs.Calls.{StatsCall, FitCall, AssembleCall, DistancesCall, PeelCall, UnpeelCall, RenderCall, ParcelWriteCall, MaskCall, ApplyCall, HoldCall}
+use Rattle.rules.specs.Domain.{keptLength, maskLength, parcelLength, areSizes, isRatio, havePitches, haveLengths, areSums, isFit, areModels, isCover, layerPitches, layerLengths, motionLengths, motionNumbers, isTime, areSteps}
 
 -- a row: the number, and whether it fits; a number may have several rows, and a row several tests
 infix 20 _unless_
@@ -124,6 +124,17 @@ renderRefusal c =
     let f = c .frames in
     firstFitting (
     layerRows (c .layer) (c .plane) (c .output ∷ f .first ∷ f .second ∷ []) (motionRows (c .motion) ((6 unless isTime (f .time)) ∷ [])))
+
+-- the writer of parcels (02): a layer, and an output of "exactly the parcel's length"
+unfoldable pub parcelWriteRefusal : ParcelWriteCall → ℕ
+parcelWriteRefusal c =
+    let l = c .layer in
+    firstFitting (layerRows l 0 [] ((4 unless eqb (length (c .parcel)) (parcelLength (l .size) (l .ratio))) ∷ []))
+
+-- a parcel that is read (02): "the reader tests 9, 10, 11 in that order, each over the whole parcel"; what holds of its
+-- records, of their kinds and of their lengths, Parcel.antt says
+abbrev pub parcelRows : (whole kinds lengths : Bool) → (rest : Table) → Table
+parcelRows whole kinds lengths rest = (9 unless whole) ∷ (10 unless kinds) ∷ (11 unless lengths) ∷ rest
 
 -- mask: two planes, and the slice that it fills
 unfoldable pub maskRefusal : MaskCall → ℕ

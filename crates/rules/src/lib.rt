@@ -43,6 +43,16 @@ pub struct Reply {
     pub yes: bool,
 }
 
+// What a call answers that tells sizes: its answer as one number, and the sizes and the ratio, all 0 when refused. It
+// passes to C as it stands.
+#[repr(C)]
+pub struct Sizes {
+    pub word: u64,
+    pub width: usize,
+    pub height: usize,
+    pub ratio: usize,
+}
+
 // The Rust's tuples on the way to those answers.
 
 // Six sums, or the six terms that a pair of frames adds to them, over moved samples p and the samples i in their place:

@@ -1,4 +1,5 @@
 pub mod Laws
 pub mod Models
+pub mod Put
 pub mod Refusals
 pub mod Turns

@@ -1,7 +1,9 @@
-//! Each call beside the Rust on one thread: the same inputs, in one run, by turns.
+//! Each call beside the Rust on one thread: the same inputs, in one run, by turns. A call that the Rust does not have
+//! stands beside a plain copy.
 
 #[cfg(before)]
 pub mod before;
+pub mod copied;
 pub mod scene;
 
 /// A call's workloads at mask steps of a pixel: for each, a mask with nothing, half or everything marked.
@@ -78,6 +80,9 @@ pub mod fit;
 pub mod hold;
 pub mod mask;
 pub mod masked;
+pub mod parcel_read;
+pub mod parcel_sizes;
+pub mod parcel_write;
 pub mod peel;
 pub mod render;
 pub mod stats;
@@ -85,7 +90,7 @@ pub mod unpeel;
 
 use std::time::{Duration, Instant};
 
-use crate::report::rows::{Growth, Row};
+use crate::report::rows::{Beside, Growth, Row};
 use crate::report::spread;
 
 /// The workloads of every call.
@@ -105,6 +110,9 @@ pub const CALLS: &[&[Workload]] = &[
     assemble::WORKLOADS,
     fit::WORKLOADS,
     render::WORKLOADS,
+    parcel_write::WORKLOADS,
+    parcel_read::WORKLOADS,
+    parcel_sizes::WORKLOADS,
 ];
 
 /// The sizes of luma, and how many rounds each gets at most.
@@ -132,6 +140,7 @@ pub const GROWTH_ROUNDS: usize = 5;
 pub struct Workload {
     pub call: &'static str,
     pub name: &'static str,
+    pub beside: Beside,
     /// Makes the inputs for a size of luma.
     pub make: Make,
 }
@@ -140,39 +149,63 @@ type Make = fn(usize, usize) -> Box<dyn Sides>;
 
 impl Workload {
     const fn new(call: &'static str, name: &'static str, make: Make) -> Self {
-        Self { call, name, make }
+        Self {
+            call,
+            name,
+            beside: Beside::Rust,
+            make,
+        }
+    }
+
+    /// Of a call that the Rust does not have.
+    const fn beside_a_copy(call: &'static str, name: &'static str, make: Make) -> Self {
+        Self {
+            beside: Beside::Copy,
+            ..Self::new(call, name, make)
+        }
+    }
+
+    /// Our side has left what is right, where each side has had a turn.
+    fn assert_right(&self, sides: &mut dyn Sides) {
+        let (call, name) = (self.call, self.name);
+        let right = match self.beside {
+            Beside::Rust => "the Rust",
+            Beside::Copy => "the second implementation",
+        };
+        assert!(sides.same(), "{call}, {name}: not what {right} leaves");
     }
 }
 
 /// One input, and both sides on it. Outputs are not cleared between rounds.
 pub trait Sides {
-    /// What the time is divided by: the pixels of the plane, or the cells.
+    /// What the time is divided by: the pixels of the plane, the cells or the records.
     fn pixels(&self) -> usize;
     fn ours(&mut self);
-    fn rust(&mut self);
-    /// Whether both sides have left the same.
+    /// The Rust's turn, or that of the copy.
+    fn theirs(&mut self);
+    /// Whether our side has left what the Rust has left; beside a copy, what the second implementation leaves.
     fn same(&mut self) -> bool;
 }
 
 /// Measures a workload at a size, in at most so many rounds, and no longer than `enough` if that will do.
 pub fn measured(workload: &Workload, size: (usize, usize), most: usize, enough: Duration) -> Row {
     let mut sides = (workload.make)(size.0, size.1);
-    let (calls, [ours, rust]) = turns(sides.as_mut(), most, enough);
-    let (call, name) = (workload.call, workload.name);
-    assert!(sides.same(), "{call}, {name}: not what the Rust leaves");
-    let both = ours.iter().zip(&rust);
+    let (calls, [ours, other]) = turns(sides.as_mut(), most, enough);
+    workload.assert_right(sides.as_mut());
+    let both = ours.iter().zip(&other);
     let ratios: Vec<f64> = both
-        .map(|(ours, rust)| ours.as_secs_f64() / rust.as_secs_f64())
+        .map(|(ours, other)| ours.as_secs_f64() / other.as_secs_f64())
         .collect();
     let (rounds, pixels) = (ours.len(), sides.pixels());
-    let [ours, rust] = [ours, rust].map(|times| per_pixel(times, pixels * calls));
+    let [ours, other] = [ours, other].map(|times| per_pixel(times, pixels * calls));
     Row {
-        call: call.to_owned(),
-        workload: name.to_owned(),
+        call: workload.call.to_owned(),
+        workload: workload.name.to_owned(),
         size,
+        beside: workload.beside,
         ours,
-        rust,
-        ratio: ours / rust,
+        other,
+        ratio: ours / other,
         spread: spread(&ratios),
         rounds,
         pixels,
@@ -182,10 +215,10 @@ pub fn measured(workload: &Workload, size: (usize, usize), most: usize, enough: 
 /// Runs both sides by turns. A call that is short is made several times in a round, so that the clock costs little. How
 /// many times, and how long the rounds of each side were.
 fn turns(sides: &mut dyn Sides, most: usize, enough: Duration) -> (usize, [Vec<Duration>; 2]) {
-    let (mut ours, mut rust) = (Vec::new(), Vec::new());
+    let (mut ours, mut other) = (Vec::new(), Vec::new());
     let start = Instant::now();
     // A round that does not count: pages are touched and the caches are warm.
-    let once = [timed(|| sides.ours()), timed(|| sides.rust())];
+    let once = [timed(|| sides.ours()), timed(|| sides.theirs())];
     let calls = calls_in_a_round(once[0].min(once[1]));
     let long = once[0] + once[1] > LONG;
     for done in 0..most {
@@ -193,9 +226,9 @@ fn turns(sides: &mut dyn Sides, most: usize, enough: Duration) -> (usize, [Vec<D
             break;
         }
         ours.push(timed(|| (0..calls).for_each(|_| sides.ours())));
-        rust.push(timed(|| (0..calls).for_each(|_| sides.rust())));
+        other.push(timed(|| (0..calls).for_each(|_| sides.theirs())));
     }
-    (calls, [ours, rust])
+    (calls, [ours, other])
 }
 
 /// Measures our side on as many small squares as make the large one, and on the large one.

@@ -1,19 +1,23 @@
-//! The differential run: every call against the Rust, on inputs made at random, at boundaries and with damage.
+//! The differential run: every call against the Rust, or against a second implementation of what the Rust does not
+//! have, on inputs made at random, at boundaries and with damage.
 //!
 //! A call's own file says what the call is lent, how a good input is made, which refusal the table gives, and what the
-//! Rust leaves behind. All else (damage, comparing, shrinking, showing, storing) is one piece of code for all calls.
+//! other side leaves behind. All else (damage, comparing, shrinking, showing, storing) is one piece of code for all
+//! calls.
 
 #[macro_use]
 pub mod lent;
 #[macro_use]
 pub mod masked;
 
+pub mod answer;
 pub mod case;
 pub mod damage;
 pub mod expected;
 pub mod inputs;
 pub mod layer;
 pub mod motion;
+pub mod parcels;
 pub mod rng;
 pub mod run;
 pub mod show;
@@ -28,6 +32,9 @@ pub mod empty;
 pub mod fit;
 pub mod hold;
 pub mod mask;
+pub mod parcel_read;
+pub mod parcel_sizes;
+pub mod parcel_write;
 pub mod peel;
 pub mod render;
 pub mod stats;
@@ -36,32 +43,37 @@ pub mod unpeel;
 pub use case::Case;
 pub use run::Call;
 
-/// Every call that is compared. The stored list names a call by its number here, which therefore never changes.
+/// Every call that is compared. The stored list, which holds the Rust's answers, names a call by its number here, which
+/// therefore never changes.
 pub const CALLS: &[Call] = &[
-    Call::of::<distances::Distances>(0),
-    Call::of::<mask::Mask>(1),
-    Call::of::<apply::Apply>(2),
-    Call::of::<hold::Hold>(3),
-    Call::of::<peel::Peel<u8>>(4),
-    Call::of::<unpeel::Unpeel<u8>>(5),
-    Call::of::<peel::Peel<i16>>(6),
-    Call::of::<unpeel::Unpeel<i16>>(7),
-    Call::of::<empty::Empty>(8),
-    Call::of::<stats::Stats>(9),
-    Call::of::<assemble::Assemble>(10),
-    Call::of::<fit::Fit>(11),
-    Call::of::<render::Render>(12),
+    Call::stored::<distances::Distances>(0),
+    Call::stored::<mask::Mask>(1),
+    Call::stored::<apply::Apply>(2),
+    Call::stored::<hold::Hold>(3),
+    Call::stored::<peel::Peel<u8>>(4),
+    Call::stored::<unpeel::Unpeel<u8>>(5),
+    Call::stored::<peel::Peel<i16>>(6),
+    Call::stored::<unpeel::Unpeel<i16>>(7),
+    Call::stored::<empty::Empty>(8),
+    Call::stored::<stats::Stats>(9),
+    Call::stored::<assemble::Assemble>(10),
+    Call::stored::<fit::Fit>(11),
+    Call::stored::<render::Render>(12),
+    Call::of::<parcel_write::ParcelWrite>(),
+    Call::of::<parcel_read::ParcelRead>(),
+    Call::of::<parcel_sizes::ParcelSizes>(),
 ];
 
 /// The stored list: for each call some cases of every refusal, then as many accepted ones as fit into its share of 300 KB.
 pub fn answers() -> Vec<u8> {
     const SEED: u64 = 20;
     const BYTES: usize = 300_000;
-    let of_call = |call: &Call| {
-        let stored = call.record(SEED, BYTES / CALLS.len());
+    let calls: Vec<&Call> = CALLS.iter().filter(|call| call.is_stored()).collect();
+    let of_call = |call: &&Call| {
+        let stored = call.record(SEED, BYTES / calls.len());
         let (name, cases, bytes) = (call.name, stored.cases, stored.bytes.len());
         words::note(&format!("{name}: {cases} cases, {bytes} bytes"));
         stored.bytes
     };
-    CALLS.iter().flat_map(of_call).collect()
+    calls.iter().flat_map(of_call).collect()
 }

@@ -4,7 +4,8 @@
 
 use std::sync::atomic::{AtomicPtr, Ordering};
 
-// The jumps, the functions of all copies (`ALL`) and their number (`FUNCTIONS`), as the build script wrote them.
+// The jumps, the functions of all copies (`ALL`) and their number (`FUNCTIONS`), and the calls that the other library
+// does not have (`ABSENT`), as the build script wrote them.
 include!(concat!(env!("OUT_DIR"), "/copies.rs"));
 
 /// The copies of each library; they differ in where their functions stand.

@@ -20,6 +20,8 @@ mod views;
 pub mod bench;
 #[cfg(not(oracle_absent))]
 pub mod check;
+#[cfg(not(oracle_absent))]
+pub mod second;
 
 #[cfg(before)]
 mod copies;

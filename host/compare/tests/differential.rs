@@ -1,4 +1,5 @@
-//! The differential run: every call against the Rust, at least 100,000 cases each.
+//! The differential run: every call against the Rust, or against the second implementation of a call that the Rust does
+//! not have, at least 100,000 cases each.
 //!
 //! `SAFETEAL_CASES` sets the number, `SAFETEAL_SEED` the one seed, `SAFETEAL_CALLS` the calls (names with commas),
 //! `SAFETEAL_TRACE` names each case before it runs.
@@ -13,7 +14,7 @@ fn nothing_was_compared() {
 
 #[cfg(not(oracle_absent))]
 #[test]
-fn every_call_answers_as_the_rust() {
+fn every_call_answers_as_the_other_side() {
     use compare::check::run::{cases, seeds, wanted};
     use words::note;
 

@@ -4,14 +4,17 @@
 //! `SAFETEAL_SEED` sets the seed.
 #![cfg(not(oracle_absent))]
 
+use compare::check::answer::{unlike, Answer};
 use compare::check::case::{difference, Case};
 use compare::check::damage::input;
 use compare::check::layer::Number;
 use compare::check::rng::Rng;
 use compare::check::run::seed;
 use compare::check::{
-    apply, assemble, distances, empty, fit, hold, mask, peel, render, stats, unpeel,
+    apply, assemble, distances, empty, fit, hold, mask, parcel_read, parcel_sizes, parcel_write,
+    peel, render, stats, unpeel,
 };
+use safeteal::ffi::Sizes;
 use safeteal::{
     Channel, Error, LayerMut, Limits, Mask, Motion, Parts, Plane, PlaneMut, Ratio, Refusal, Size,
 };
@@ -20,8 +23,8 @@ const CASES: u64 = 4000;
 
 /// A case that can be put to the library.
 trait Through: Case {
-    /// The library's answer; none for numbers that its types cannot hold.
-    fn library(&mut self) -> Option<Result<u64, Error>>;
+    /// The library's answer, as C gives it; none for numbers that its types cannot hold.
+    fn library(&mut self) -> Option<Result<Self::Answer, Error>>;
 }
 
 fn same<C: Through>() {
@@ -31,12 +34,13 @@ fn same<C: Through>() {
         let place = format!("{}, seed {seed}, case {index}", C::NAME);
         let case = input::<C>(&mut Rng::of(seed, C::NAME, index));
         let (mut direct, mut through) = (case.clone(), case);
-        let word = direct.ours();
+        let right = direct.ours();
+        let word = right.word();
         match through.library() {
             None => continue,
-            Some(Ok(count)) => {
+            Some(Ok(answer)) => {
                 accepted += 1;
-                assert_eq!(256 * count, word, "{place}");
+                assert_eq!(unlike(answer, right), None, "{place}");
             }
             Some(Err(error)) => {
                 refused += 1;
@@ -78,10 +82,26 @@ tests! {
     assemble_through_the_library: assemble::Assemble,
     fit_through_the_library: fit::Fit,
     render_through_the_library: render::Render,
+    parcel_write_through_the_library: parcel_write::ParcelWrite,
+    parcel_read_through_the_library: parcel_read::ParcelRead,
+    parcel_sizes_through_the_library: parcel_sizes::ParcelSizes,
 }
 
 fn done(answer: Result<(), Error>) -> Option<Result<u64, Error>> {
     Some(answer.map(|()| 0))
+}
+
+fn counted(answer: Result<u64, Error>) -> Option<Result<u64, Error>> {
+    Some(answer.map(|count| 256 * count))
+}
+
+fn sized(answer: Result<(Size, Ratio), Error>) -> Option<Result<Sizes, Error>> {
+    Some(answer.map(|(size, ratio)| Sizes {
+        word: 0,
+        width: size.width,
+        height: size.height,
+        ratio: ratio.number(),
+    }))
 }
 
 impl Through for distances::Distances {
@@ -129,7 +149,7 @@ impl<T: Number> Through for peel::Peel<T> {
     fn library(&mut self) -> Option<Result<u64, Error>> {
         let channel = Channel::of_number(self.plane)?;
         let (lent, output, raw) = self.lent();
-        Some(lent.layer()?.peel(channel, output, raw))
+        counted(lent.layer()?.peel(channel, output, raw))
     }
 }
 
@@ -137,7 +157,7 @@ impl<T: Number> Through for unpeel::Unpeel<T> {
     fn library(&mut self) -> Option<Result<u64, Error>> {
         let channel = Channel::of_number(self.plane)?;
         let (lent, output, frames) = self.lent();
-        Some(lent.layer()?.unpeel(channel, output, frames))
+        counted(lent.layer()?.unpeel(channel, output, frames))
     }
 }
 
@@ -161,13 +181,13 @@ fn judged(answer: Result<u64, Error>, motion: &Motion<'_>) -> Option<Result<u64,
             assert!(!motion.covers(), "{error}");
             None
         }
-        _ => Some(answer),
+        _ => counted(answer),
     }
 }
 
 impl Through for empty::Empty {
     fn library(&mut self) -> Option<Result<u64, Error>> {
-        Some(self.layer.lent().layer()?.empty().map(u64::from))
+        counted(self.layer.lent().layer()?.empty().map(u64::from))
     }
 }
 
@@ -210,5 +230,28 @@ impl Through for fit::Fit {
             next,
         };
         done(safeteal::fit(parts, size, ratio, settings, work, layer))
+    }
+}
+
+impl Through for parcel_write::ParcelWrite {
+    fn library(&mut self) -> Option<Result<u64, Error>> {
+        let layer = self.layer.lent().layer()?;
+        done(layer.write_parcel(&mut self.parcel))
+    }
+}
+
+impl Through for parcel_read::ParcelRead {
+    fn library(&mut self) -> Option<Result<Sizes, Error>> {
+        let layer = LayerMut {
+            luma: &mut self.luma,
+            chroma: [&mut self.chroma1, &mut self.chroma2],
+        };
+        sized(safeteal::read_parcel(&self.parcel, layer))
+    }
+}
+
+impl Through for parcel_sizes::ParcelSizes {
+    fn library(&mut self) -> Option<Result<Sizes, Error>> {
+        sized(safeteal::parcel_sizes(&self.parcel))
     }
 }

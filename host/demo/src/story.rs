@@ -1,4 +1,5 @@
-//! The demo itself, step by step: find the lettering, lift it, make the frame in between, bring the lettering back.
+//! The demo itself, step by step: find the lettering, send it to another desk, lift it, make the frame in between,
+//! bring the lettering back.
 
 use std::error;
 use std::fs;
@@ -12,7 +13,7 @@ use crate::finding::{most_evidence, summed, Parts};
 use crate::gallery;
 use crate::options::Options;
 use crate::planes::{lay_back, lift, render, Written};
-use crate::report::step;
+use crate::report::{grouped, step};
 use crate::summary;
 use safeteal::{Channel, Error, Frame, LayerBuf, Size};
 
@@ -24,6 +25,7 @@ pub fn run(options: &Options) -> Result<(), Box<dyn error::Error>> {
     let clip = clip(options);
     let parts = parts(&clip)?;
     let [passed, layer] = fits(&parts, options)?;
+    let layer = sent(&layer)?;
     let made = Made::new(&clip, parts.frame, [&passed, &layer])?;
     let folder = options.out.display();
     step(&format!("writing pictures to {folder}"), "");
@@ -77,6 +79,16 @@ fn fits(parts: &Parts, options: &Options) -> Result<[LayerBuf; 2], String> {
 /// What to do where the library refuses a fit: of few comparisons a low figure takes dots that cannot be stored.
 fn refused(figure: f32, error: &Error) -> String {
     format!("at evidence figure {figure}, {error}. In this demo, try a higher --lower, or more --frames")
+}
+
+/// The layer as it is read at another desk, where the lettering is lifted.
+fn sent(layer: &LayerBuf) -> Result<LayerBuf, Error> {
+    let parcel = layer.to_parcel();
+    let bytes = grouped(parcel.len());
+    let name = format!("sending the second layer to another desk: a parcel of {bytes} bytes");
+    let about = "From here on, the second layer is the one that is read there.";
+    step(&name, about);
+    LayerBuf::from_parcel(&parcel)
 }
 
 /// Sees to it that pictures can be written, before the work begins.

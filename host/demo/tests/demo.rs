@@ -113,6 +113,16 @@ fn leaves_seven_pictures_that_can_be_read() {
     }
 }
 
+/// The layer that is lifted went through a parcel of these bytes: 42, 4 a pixel of luma and of a chroma plane, 2 a cell.
+#[test]
+fn the_layer_is_sent_as_a_parcel() {
+    let folder = fresh("parcel");
+    let words = printed(demo("--width 160 --height 120 --frames 8", &folder));
+    let bytes = numbers(&words, "to another desk: a parcel of # bytes");
+    let expected = 42 + 4 * 160 * 120 + 4 * 80 * 60 + 2 * 20 * 15;
+    assert_eq!(bytes, [expected]);
+}
+
 /// The dots of each colour in the picture of a clip of 160 by 120, where a dot is a square of 3 by 3.
 fn shown(folder: &Path) -> [usize; 4] {
     let bytes = fs::read(folder.join("2-dots.png")).expect("the picture");

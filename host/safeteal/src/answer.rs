@@ -2,7 +2,8 @@
 
 use crate::error::Search;
 use crate::groups::{Form, LentLayer};
-use crate::{Channel, Error, LayerOf, PlaneMut, Refusal, Result, Size};
+use crate::plane::Shape;
+use crate::{ffi, Channel, Error, LayerOf, PlaneMut, Ratio, Refusal, Result, Size};
 
 /// The count, or the refusal that the number names, with what the search finds in the arguments.
 pub(crate) fn counted(
@@ -23,6 +24,18 @@ pub(crate) fn done(
     arguments: impl FnOnce(Search) -> Search,
 ) -> Result<()> {
     counted(call, word, arguments).map(|_| ())
+}
+
+/// For a call that answers the size of luma and the ratio.
+pub(crate) fn sized(
+    call: &'static str,
+    answer: ffi::Sizes,
+    arguments: impl FnOnce(Search) -> Search,
+) -> Result<Shape> {
+    done(call, answer.word, arguments)?;
+    let ratio = Ratio::of_number(answer.ratio);
+    let ratio = ratio.expect("the linked library accepts ratios 1, 2 and 4 alone");
+    Ok((Size::new(answer.width, answer.height), ratio))
 }
 
 /// For a call that writes one plane by a layer: `lent` are the names and sizes of the planes lent beside the output;

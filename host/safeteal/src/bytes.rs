@@ -7,7 +7,8 @@ use crate::{Channel, Error, LayerBuf, LayerOf, Ratio, Refusal, Result, Size};
 
 impl LayerBuf {
     /// The three slices as little-endian bytes, two for each number: luma, then the two of chroma. That is what
-    /// [`LayerBytes`](crate::LayerBytes) reads, and what can be kept in a file.
+    /// [`LayerBytes`](crate::LayerBytes) reads. To keep a layer in a file, or to send it, make a
+    /// [parcel](Self::to_parcel) of it, which tells its size and ratio itself.
     ///
     /// ```
     /// use safeteal::{LayerBuf, LayerBytes, Ratio, Refusal, Size};

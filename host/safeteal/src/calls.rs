@@ -31,3 +31,6 @@ pub use fit::{fit, Settings, Work};
 pub(crate) use fit::{fitted, parts};
 
 mod render;
+
+mod parcel;
+pub use parcel::{parcel_sizes, read_parcel};

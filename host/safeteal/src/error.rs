@@ -4,10 +4,12 @@ use std::fmt;
 
 use crate::{Refusal, Size, Sums};
 
+mod parcel;
 mod search;
 mod total;
 mod unlike;
 mod why;
+use parcel::Flaw;
 pub(crate) use search::Search;
 use total::Total;
 use unlike::Unlike;
@@ -39,7 +41,7 @@ pub struct Error {
 }
 
 impl Error {
-    /// The reason. Where several hold, it is the one with the lowest number.
+    /// The reason. Where several hold, it is the first in the order that [`Refusal`] tells of.
     #[must_use]
     pub fn refusal(&self) -> Refusal {
         self.refusal
@@ -122,6 +124,9 @@ impl fmt::Display for Number {
     }
 }
 
+/// The pairs that sums can hold.
+const MOST: usize = Sums::MOST;
+
 /// An argument that is not as it has to be.
 #[derive(Clone, Copy, Debug, PartialEq)]
 pub(crate) enum Fault {
@@ -139,11 +144,11 @@ pub(crate) enum Fault {
     StepAcross(usize, usize),
     StepDown(usize, usize, usize),
     Total(Total),
+    Parcel(Flaw),
 }
 
 impl fmt::Display for Fault {
     fn fmt(&self, f: &mut fmt::Formatter<'_>) -> fmt::Result {
-        const MOST: usize = Sums::MOST;
         match *self {
             Fault::Outside(name, value, [low, high]) => {
                 write!(f, "{name} is {value} and must be {low} to {high}")
@@ -180,6 +185,7 @@ impl fmt::Display for Fault {
                 many(length, "byte")
             ),
             Fault::Total(total) => total.fmt(f),
+            Fault::Parcel(flaw) => flaw.fmt(f),
         }
     }
 }

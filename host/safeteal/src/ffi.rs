@@ -1,7 +1,7 @@
 //! The C interface of the proved library, on one page: each function of safeteal.h once, with its slices.
 //!
 //! No other module of this package has unsafe code. An answer of `u64` is `count * 256 + number`, but for the single
-//! floats at the end.
+//! floats at the end; an answer of more numbers is a struct, and its `word` is such a number.
 #![allow(unsafe_code, clippy::too_many_arguments)]
 
 /// For each function of the list its declaration, where a slice is a pointer and a length in elements, and the safe
@@ -86,6 +86,37 @@ macro_rules! proved {
     };
 }
 
+/// For each struct of the list its declaration; its fields are numbers.
+macro_rules! answers {
+    ($($(#[$doc:meta])* struct $name:ident { $($(#[$note:meta])* $field:ident: $number:ident,)* })*) => {
+        $(
+            $(#[$doc])*
+            #[repr(C)]
+            #[derive(Debug, Clone, Copy, PartialEq, Eq)]
+            pub struct $name {
+                $($(#[$note])* pub $field: $number,)*
+            }
+        )*
+
+        /// What is declared of structs, for the same test: the fields in order.
+        pub const STRUCTS: &[(&str, &[&str])] = &[$((stringify!($name), &[$(stringify!($number $field)),*])),*];
+    };
+}
+
+answers! {
+    /// What a parcel's head says, all 0 when the parcel is refused.
+    struct Sizes {
+        /// `count * 256 + number`; the count is 0.
+        word: u64,
+        /// In luma pixels.
+        width: usize,
+        /// In luma pixels.
+        height: usize,
+        /// Luma pixels a chroma pixel, in either direction.
+        ratio: usize,
+    }
+}
+
 proved! {
     /// Adds one pair of frames to the sums.
     fn stats(
@@ -132,6 +163,15 @@ proved! {
 
     /// Makes distances of the complete rows of `cells`.
     fn distances(cells: &mut [u8], width: usize) -> u64;
+
+    /// Writes a layer as a parcel.
+    fn parcel_write([layer of i16], parcel: &mut [u8]) -> u64;
+
+    /// Reads a parcel into a layer of the sizes of its head.
+    fn parcel_read(parcel: &[u8], luma: &mut [i16], chroma1: &mut [i16], chroma2: &mut [i16]) -> Sizes;
+
+    /// The sizes of a parcel that a reader with slices to match accepts.
+    fn parcel_sizes(parcel: &[u8]) -> Sizes;
 
     /// Marks what stands still between two planes.
     fn mask(

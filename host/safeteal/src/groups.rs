@@ -161,6 +161,11 @@ impl LentLayer<'_, i16> {
     pub fn empty(&self) -> u64 {
         call!(empty(self as layer))
     }
+
+    /// Writes the layer as a parcel.
+    pub fn parcel(&self, parcel: &mut [u8]) -> u64 {
+        call!(parcel_write(self as layer, parcel))
+    }
 }
 
 /// Adds one pair of frames to the sums.

@@ -18,6 +18,7 @@ mod error;
 mod layer;
 mod motion;
 mod plane;
+mod records;
 mod refusal;
 mod sums;
 mod texels;

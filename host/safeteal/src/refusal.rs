@@ -2,7 +2,7 @@ use std::fmt;
 
 numbered! {
     /// Why a call was refused, as an [`Error`](crate::Error) says it. Where several reasons hold, the one with the
-    /// lowest number is given.
+    /// lowest number is given; but the readers of a parcel test 9, 10 and 11 first, and 4 after them.
     ///
     /// ```
     /// use safeteal::{distances, Refusal};
@@ -31,6 +31,13 @@ numbered! {
         Pairs = 7,
         /// 8: a chroma offset total that does not fit into 16 bits.
         ChromaTotal = 8,
+        /// 9: a record of a parcel is cut short.
+        Record = 9,
+        /// 10: the first record of a parcel is not its head, or a kind is unknown, there twice or missing.
+        Kind = 10,
+        /// 11: a parcel's head has not six bytes, or says sizes or a ratio that no call takes; or a payload has not the
+        /// length that its head calls for.
+        Payload = 11,
     }
 }
 
@@ -49,42 +56,35 @@ impl Refusal {
     }
 }
 
+/// What each says where no argument alone is at fault, in the order of their numbers.
+const WORDS: [&str; Refusal::ALL.len()] = [
+    "a width or height is outside 1 to 4096, or there is no such plane: \
+     give the sizes of luma (of the plane itself to mask, apply and hold; to distances a width above 0)",
+    "the ratio is not 1, 2 or 4, or does not divide width and height: give luma pixels per chroma pixel \
+     (to apply and hold: a mask 1 to 8 times as wide and as high as the plane, of exactly that length)",
+    "a pitch is below the width of its plane's row or above 65,536: give the distance between two rows' \
+     starts",
+    "a slice has a wrong length: a plane needs (rows - 1) * pitch + width bytes, a layer slice \
+     2 * pitch * rows numbers, and sums, models, covers, masks, motion fields and outputs exactly \
+     their length",
+    "a motion number is outside its range: grid sides 1 to 4096, block sides 1 to 128, \
+     origins -4096 to 4096, pel 1, 2 or 4",
+    "a setting is NaN or outside its range: time 0 to 1, limit 0.5 to 255, evidence figure 0 to 65,536",
+    "a part holds 1 to 12 pairs: start a new part after twelve, and fit none that has no pair, nor beside \
+     one",
+    "a chroma offset total is outside -32768 to 32767: the colour cast is too strong to be stored; \
+     fit with another evidence figure or another limit",
+    "a record of the parcel is cut short: each is the length of its payload (four bytes), its kind (two \
+     bytes) and the payload; send the whole parcel again",
+    "the parcel's first record is not its head, or a kind is unknown, there twice or missing: kinds 1 to 6 \
+     stand once each, 1 first",
+    "the parcel's head has not six bytes, or says a width or height outside 1 to 4096 or a ratio that is \
+     not 1, 2 or 4 or does not divide them, or a payload has not the length that the head calls for",
+];
+
 impl fmt::Display for Refusal {
     fn fmt(&self, f: &mut fmt::Formatter<'_>) -> fmt::Result {
-        f.write_str(match self {
-            Refusal::Size => {
-                "a width or height is outside 1 to 4096, or there is no such plane: \
-                 give the sizes of luma (of the plane itself to mask, apply and hold; to distances a width above 0)"
-            }
-            Refusal::Ratio => {
-                "the ratio is not 1, 2 or 4, or does not divide width and height: give luma pixels per chroma pixel \
-                 (to apply and hold: a mask 1 to 8 times as wide and as high as the plane, of exactly that length)"
-            }
-            Refusal::Pitch => {
-                "a pitch is below the width of its plane's row or above 65,536: give the distance between two rows' \
-                 starts"
-            }
-            Refusal::Length => {
-                "a slice has a wrong length: a plane needs (rows - 1) * pitch + width bytes, a layer slice \
-                 2 * pitch * rows numbers, and sums, models, covers, masks, motion fields and outputs exactly \
-                 their length"
-            }
-            Refusal::Motion => {
-                "a motion number is outside its range: grid sides 1 to 4096, block sides 1 to 128, \
-                 origins -4096 to 4096, pel 1, 2 or 4"
-            }
-            Refusal::Setting => {
-                "a setting is NaN or outside its range: time 0 to 1, limit 0.5 to 255, evidence figure 0 to 65,536"
-            }
-            Refusal::Pairs => {
-                "a part holds 1 to 12 pairs: start a new part after twelve, and fit none that has no pair, nor beside \
-                 one"
-            }
-            Refusal::ChromaTotal => {
-                "a chroma offset total is outside -32768 to 32767: the colour cast is too strong to be stored; \
-                 fit with another evidence figure or another limit"
-            }
-        })
+        f.write_str(WORDS[usize::from(self.number()) - 1])
     }
 }
 

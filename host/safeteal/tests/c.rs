@@ -94,6 +94,7 @@ fn the_whole_chain_runs() {
     let version = env!("CARGO_PKG_VERSION");
     let expected = format!(
         "safeteal.h {version}: 12 pairs of frames of 64 by 32\n\
+         the other desk has a parcel of 10346 bytes, a layer of 64 by 32\n\
          lifted: 64 pixels of luma, 16 and 16 of chroma\n\
          the frame was up to 89 off the scene, and is up to 1 off it now\n\
          laid back: 64 pixels of luma, 16 and 16 of chroma\n\

@@ -43,7 +43,9 @@ fn proved() -> Interface {
         let name = name.split('<').next().expect("a name");
         let (parameters, rest) = rest.split_once(") -> ").expect("an answer");
         let parameters = parameters.trim_end().trim_end_matches(',').split(',');
-        let answer = rest.split_whitespace().next().map(str::to_owned);
+        // a struct may be named with its crate
+        let answer = rest.split_whitespace().next().expect("an answer");
+        let answer = answer.rsplit("::").next().map(str::to_owned);
         let lines = parameters.flat_map(parameter).chain(answer);
         (name.to_owned(), lines.collect())
     };
@@ -52,12 +54,11 @@ fn proved() -> Interface {
     functions.map(function).collect()
 }
 
-/// As `src/ffi.rs` declares it.
-fn declared() -> Interface {
-    let lines = |lines: &[&str]| lines.iter().map(|&line| line.to_owned()).collect();
-    let functions = safeteal::ffi::DECLARED.iter();
-    functions
-        .map(|(name, of)| ((*name).to_owned(), lines(of)))
+/// A list of `src/ffi.rs`.
+fn lists(list: &[(&str, &[&str])]) -> Interface {
+    let owned = |lines: &[&str]| lines.iter().map(|&line| line.to_owned()).collect();
+    let rows = list.iter();
+    rows.map(|(name, lines)| ((*name).to_owned(), owned(lines)))
         .collect()
 }
 
@@ -112,7 +113,7 @@ fn parameter(text: &str) -> String {
 
 /// A type of C in Rust's words.
 fn kind(c: &str) -> &'static str {
-    const TYPES: [(&str, &str); 8] = [
+    const TYPES: [(&str, &str); 9] = [
         ("uint8_t", "u8"),
         ("int16_t", "i16"),
         ("uint16_t", "u16"),
@@ -121,6 +122,7 @@ fn kind(c: &str) -> &'static str {
         ("size_t", "usize"),
         ("float", "f32"),
         ("_Bool", "bool"),
+        ("struct safeteal_sizes", "Sizes"),
     ];
     let found = TYPES.iter().find(|(name, _)| *name == c);
     found.unwrap_or_else(|| panic!("the type {c:?}")).1
@@ -131,7 +133,7 @@ fn header() -> Interface {
     let text = without_bodies(&expanded());
     let declarations = text.split(';').filter_map(|text| {
         let (head, parameters) = text.trim().rsplit_once('(')?;
-        let (answer, name) = head.split_once(" safeteal_")?;
+        let (answer, name) = head.rsplit_once(" safeteal_")?;
         if answer.starts_with("static inline ") {
             return None;
         }
@@ -142,11 +144,43 @@ fn header() -> Interface {
     declarations.collect()
 }
 
+/// The structs of a text that are declared with these words before them, field by field: each field ends with `end`,
+/// and `field` says it in Rust's words.
+fn structs(text: &str, before: &str, end: char, field: impl Fn(&str) -> String) -> Interface {
+    let declarations = text.split(before).skip(1).filter_map(|text| {
+        let (name, rest) = text.split_once(' ')?;
+        let (fields, _) = rest.strip_prefix('{')?.split_once('}')?;
+        let fields = fields.split(end).map(str::trim);
+        let fields = fields.filter(|text| !text.is_empty()).map(&field);
+        Some((name.to_owned(), fields.collect()))
+    });
+    declarations.collect()
+}
+
+/// An answer of more numbers than one: the same fields wherever it is declared, in the same order.
+#[test]
+fn the_structs_are_those_that_are_proved() {
+    let text = read(&package().join("../../crates/rules/src/lib.rt"));
+    let proved = structs(&text, "#[repr(C)]\npub struct ", ',', |text| {
+        let text = text.strip_prefix("pub ").expect("a field that is seen");
+        let (name, of) = text.split_once(": ").expect("a name and a type");
+        format!("{of} {name}")
+    });
+    assert_eq!(proved.len(), 1, "{proved:?}");
+    assert_eq!(lists(safeteal::ffi::STRUCTS), proved, "in src/ffi.rs");
+    let header = structs(&expanded(), "struct safeteal_", ';', parameter);
+    let header = header.into_iter().map(|(name, fields)| {
+        let name = kind(&format!("struct safeteal_{name}")).to_owned();
+        (name, fields)
+    });
+    assert_eq!(header.collect::<Interface>(), proved, "in safeteal.h");
+}
+
 #[test]
 fn the_declarations_are_those_that_are_proved() {
-    let (proved, declared, header) = (proved(), declared(), header());
-    assert_eq!(proved.len(), 15);
-    assert_eq!((declared.len(), header.len()), (15, 15));
+    let (proved, declared, header) = (proved(), lists(safeteal::ffi::DECLARED), header());
+    assert_eq!(proved.len(), 18);
+    assert_eq!((declared.len(), header.len()), (18, 18));
     for ((name, _), (other, _)) in declared.iter().zip(&header) {
         assert_eq!(name, other, "src/ffi.rs and safeteal.h have one order");
     }

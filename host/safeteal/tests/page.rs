@@ -45,3 +45,12 @@ fn the_memory_that_each_owns() {
     assert_eq!(figure(work), 353);
     assert_eq!((3 * of_sums + work + of_layer + 500_000) / 1_000_000, 222);
 }
+
+#[test]
+fn the_bytes_of_a_parcel() {
+    let layer = LayerBuf::new(Size::new(1920, 1080), Ratio::Two).expect("a layer");
+    let (luma, chroma, cells) = (1920 * 1080, 960 * 540, 240 * 135);
+    let bytes = layer.to_parcel().len();
+    assert_eq!(bytes, 42 + 4 * luma + 4 * chroma + 2 * cells);
+    assert_eq!((bytes + 50_000) / 100_000, 104);
+}

@@ -13,11 +13,10 @@ use Rattle.plane.specs.Slices.{slice}
 use Rattle.motion.specs.declared.Grid.{Grid}
 use Rattle.motion.specs.Moves.{motionOf}
 use Rattle.layer_lent.specs.declared.Shape.{Shape}
-use Rattle.layer_lent.specs.Lent.{Numbers, Bytes, outputBy, framesBy}
+use Rattle.layer_lent.specs.Lent.{ofNumbers, Numbers, Bytes, outputBy, framesBy}
 use Rattle.host.proofs.Back.{again, read-back}
 use Rattle.evidence.specs.Evidence.{renderPlane}
 use Rattle.evidence_calls.specs.Calls.{LaterTold}
-use Rattle.evidence_host.specs.Layers.{ofNumbers}
 use Rattle.evidence_host.proofs.render.Statement.{statement}
 use Rattle.evidence_host.proofs.render.Tie as tie
 

@@ -54,7 +54,7 @@ impl Sides for Assemble {
         ));
     }
 
-    fn rust(&mut self) {
+    fn theirs(&mut self) {
         let models = black_box(&self.rust_models);
         let cover = black_box(&self.cover);
         self.rust = Some(black_box(rust::assemble(

@@ -3,8 +3,8 @@
 
 use std::time::Duration;
 
-use super::{timed, Sides, Workload};
-use crate::copies::{choose, COPIES};
+use super::{timed, Workload};
+use crate::copies::{choose, ABSENT, COPIES};
 use crate::report::csv::Fields;
 use crate::report::rows::{four, sized};
 
@@ -22,8 +22,8 @@ pub const USUAL: [(usize, usize); 2] = [(64, 64), (1920, 1080)];
 /// A turn lasts at least so long: that many calls are made in it.
 const TURN: Duration = Duration::from_micros(200);
 
-/// The turns of the Rust, which is there to be seen beside and decides nothing.
-const RUST: usize = 3;
+/// The turns of the Rust, or of the copy, which is there to be seen beside and decides nothing.
+const BESIDE: usize = 3;
 
 /// A share of the other library's time that a change may cost.
 const MOST: f64 = 1.02;
@@ -48,11 +48,11 @@ pub struct Compared {
     pub size: (usize, usize),
     pub before: f64,
     pub now: f64,
-    pub rust: f64,
+    pub other: f64,
     ratios: Vec<f64>,
 }
 
-/// A row: by the shortest turns, and by the rounds, with the middle half of those; beside the Rust.
+/// A row: by the shortest turns, and by the rounds, with the middle half of those; beside the Rust, or a copy.
 impl Fields for Compared {
     const HEAD: &'static [&'static str] = &[
         "call",
@@ -64,7 +64,8 @@ impl Fields for Compared {
         "median_ratio",
         "middle_from",
         "middle_to",
-        "now_to_rust",
+        "now_to_other",
+        "beside",
         "rounds",
     ];
 
@@ -73,10 +74,11 @@ impl Fields for Compared {
         let ratios = [50, 25, 75].map(|hundredths| self.ratio(hundredths));
         let times = [self.before, self.now, self.of_shortest()];
         let numbers = times.into_iter().chain(ratios);
-        let numbers = numbers.chain([self.now / self.rust]).map(four);
-        let rounds = self.rounds().to_string();
+        let numbers = numbers.chain([self.now / self.other]).map(four);
+        let beside = self.workload.beside.name().to_owned();
         let names = names.into_iter().chain([sized(self.size)]);
-        names.chain(numbers).chain([rounds]).collect()
+        let rest = [beside, self.rounds().to_string()];
+        names.chain(numbers).chain(rest).collect()
     }
 }
 
@@ -96,13 +98,22 @@ impl Compared {
     }
 }
 
-/// Measures a workload on both libraries. A round is four turns, before, now, now, before: what grows slower or faster in
-/// the course of it weighs on both alike. The next round takes the next copies, whose functions stand elsewhere.
+/// Whether both libraries have its call: an older one lacks those that were added since.
+pub fn in_both(workload: &Workload) -> bool {
+    !ABSENT.contains(&workload.call)
+}
+
+/// Measures a workload on both libraries, which have its call. A round is four turns, before, now, now, before: what
+/// grows slower or faster in the course of it weighs on both alike. The next round takes the next copies, whose
+/// functions stand elsewhere.
 pub fn compare(workload: &'static Workload, size: (usize, usize), rounds: usize) -> Compared {
     let (width, height) = size;
     for library in [Library::Before, Library::Now] {
         library.choose(0);
-        assert_right(workload, (workload.make)(width, height).as_mut());
+        let mut sides = (workload.make)(width, height);
+        sides.ours();
+        sides.theirs();
+        workload.assert_right(sides.as_mut());
     }
     let mut sides = (workload.make)(width, height);
     let (mut before, mut now, mut ratios) = (Duration::MAX, Duration::MAX, Vec::new());
@@ -118,9 +129,9 @@ pub fn compare(workload: &'static Workload, size: (usize, usize), rounds: usize)
         ratios.push((turns[1] + turns[2]).as_secs_f64() / (turns[0] + turns[3]).as_secs_f64());
     }
     ratios.sort_by(f64::total_cmp);
-    let rust_calls = calls_in_a_turn(|| sides.rust());
-    let rust = (0..RUST).map(|_| timed(|| (0..rust_calls).for_each(|_| sides.rust())));
-    let rust = rust.min().unwrap_or_default();
+    let other_calls = calls_in_a_turn(|| sides.theirs());
+    let other = (0..BESIDE).map(|_| timed(|| (0..other_calls).for_each(|_| sides.theirs())));
+    let other = other.min().unwrap_or_default();
     let pixels = sides.pixels();
     let per_pixel = |time: Duration, calls: usize| time.as_nanos() as f64 / (pixels * calls) as f64;
     Compared {
@@ -128,17 +139,9 @@ pub fn compare(workload: &'static Workload, size: (usize, usize), rounds: usize)
         size,
         before: per_pixel(before, calls),
         now: per_pixel(now, calls),
-        rust: per_pixel(rust, rust_calls),
+        other: per_pixel(other, other_calls),
         ratios,
     }
-}
-
-/// Whether the library that is chosen leaves what the Rust leaves.
-fn assert_right(workload: &Workload, sides: &mut dyn Sides) {
-    sides.ours();
-    sides.rust();
-    let (call, name) = (workload.call, workload.name);
-    assert!(sides.same(), "{call}, {name}: not what the Rust leaves");
 }
 
 /// So many that a turn is not short; the first call, which does not count, touches pages.

@@ -39,7 +39,7 @@ impl Sides for Distances {
         black_box(ffi::distances(black_box(&mut self.ours), self.width));
     }
 
-    fn rust(&mut self) {
+    fn theirs(&mut self) {
         self.rust.copy_from_slice(&self.cover);
         oracle::layer::distances(black_box(&mut self.rust), self.width);
     }

@@ -30,7 +30,7 @@ impl Sides for Empty {
         self.ours = black_box(layer.empty()) == 256;
     }
 
-    fn rust(&mut self) {
+    fn theirs(&mut self) {
         let layer = rust::Layer::from(black_box(self.layer.numbers()));
         self.rust = black_box(layer.empty());
     }

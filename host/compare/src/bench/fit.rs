@@ -148,7 +148,7 @@ impl Sides for Fit {
         ));
     }
 
-    fn rust(&mut self) {
+    fn theirs(&mut self) {
         let parts = black_box([0, 1, 2].map(|at| self.parts[at].as_ref()));
         self.rust = black_box(rust::fit(
             parts,

@@ -48,7 +48,7 @@ impl Sides for Mask {
         ));
     }
 
-    fn rust(&mut self) {
+    fn theirs(&mut self) {
         self.rust = oracle::still::mask(
             black_box(&self.first),
             black_box(&self.second),

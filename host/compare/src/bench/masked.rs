@@ -29,7 +29,7 @@ impl<T> Sides for Masked<T> {
         black_box((self.ours)(black_box(&mut self.lent)));
     }
 
-    fn rust(&mut self) {
+    fn theirs(&mut self) {
         self.change();
         (self.theirs)(black_box(&mut self.lent));
         self.change();

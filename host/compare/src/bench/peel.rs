@@ -49,7 +49,7 @@ impl Sides for Peel {
         );
     }
 
-    fn rust(&mut self) {
+    fn theirs(&mut self) {
         let (output, raw) = (
             black_box(self.rust.plane_mut()),
             black_box(self.raw.plane()),

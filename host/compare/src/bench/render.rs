@@ -33,7 +33,7 @@ impl Sides for Render {
         black_box(layer.render(lent.plane, output, frames, &motion, 0));
     }
 
-    fn rust(&mut self) {
+    fn theirs(&mut self) {
         let lent = &mut self.unpeel;
         let (frames, motion) = black_box((lent.frames.lent(), self.motion.lent()));
         let output = black_box(lent.rust.plane_mut());

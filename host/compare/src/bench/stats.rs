@@ -85,7 +85,7 @@ impl Sides for Stats {
         black_box(groups::stats(luma, chroma, 0, self.size, RATIO, &pair));
     }
 
-    fn rust(&mut self) {
+    fn theirs(&mut self) {
         let pair = black_box(self.pair.pair()).into();
         let size = (self.size.width, self.size.height);
         self.rust = Some(black_box(rust::stats(&[pair], size, RATIO)));

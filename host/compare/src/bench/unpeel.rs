@@ -56,7 +56,7 @@ impl Sides for Unpeel {
         );
     }
 
-    fn rust(&mut self) {
+    fn theirs(&mut self) {
         let frames = black_box(self.frames.lent()).into();
         let output = black_box(self.rust.plane_mut());
         let layer = rust::Layer::from(black_box(self.layer.numbers()));

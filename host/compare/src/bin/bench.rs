@@ -13,7 +13,8 @@ use words::{line, print, Asked, Command, Takes, Word};
 
 const COMMAND: Command = Command {
     name: "bench",
-    does: "each call beside the Rust on one thread: a row for each workload and size, then a line for each call",
+    does: "each call beside the Rust on one thread (a parcel's calls beside a plain copy): a row for each workload and \
+           size, then a line for each call",
     plain: &[Word::new("CALL", Takes::One("CALL", calls), "the calls that are measured").or("all").many()],
     needed: 0,
     options: &[
@@ -26,7 +27,7 @@ const COMMAND: Command = Command {
             "--before",
             Takes::Nothing,
             "measures instead two libraries by turns, the one in the folder that SAFETEAL_BEFORE named when bench was \
-             built and the present one; the last lines name the worst ratios",
+             built and the present one, in the calls that both have; the last lines name the worst ratios",
         ),
         Word::new("--csv", Takes::Text("FILE"), "writes the rows into FILE as they are made, with commas between"),
         Word::new(
@@ -38,7 +39,8 @@ const COMMAND: Command = Command {
         Word::new("--into", Takes::Text("FOLDER"), "writes the same files into FOLDER, and for any calls and sizes"),
         Word::new("--table", Takes::Text("CSV"), "measures nothing: takes the rows of the file CSV"),
     ],
-    more: "Times are in nanoseconds per pixel of the plane (per cell, for distances and empty).",
+    more: "Times are in nanoseconds per pixel of the plane (per cell, for distances and empty; per record, for \
+           parcel_sizes).",
 };
 
 /// The sizes, as `--size` takes them.
@@ -255,6 +257,29 @@ mod measured {
         );
     }
 
+    /// The workloads of calls that both libraries have; the others are named.
+    #[cfg(before)]
+    fn in_both(asked: &Asked) -> Vec<&'static Workload> {
+        use compare::bench::before::in_both;
+
+        let (both, absent): (Vec<_>, Vec<_>) =
+            workloads(asked).into_iter().partition(|it| in_both(it));
+        let mut calls: Vec<&str> = absent.iter().map(|workload| workload.call).collect();
+        calls.dedup();
+        let calls = calls.join(", ");
+        if both.is_empty() {
+            COMMAND.stop(&format!(
+                "the other library does not have {calls}: nothing was measured"
+            ));
+        }
+        if !absent.is_empty() {
+            line(&format!(
+                "left out, since the other library does not have them: {calls}\n"
+            ));
+        }
+        both
+    }
+
     /// Prints the rows of two libraries as they are made, and the worst ratio of each kind.
     #[cfg(before)]
     pub fn before(asked: &Asked) {
@@ -269,7 +294,7 @@ mod measured {
             let rounds = asked.number("--rounds").unwrap_or(rounds);
             compare(workload, (width, height), rounds)
         };
-        let rows = workloads(asked).into_iter();
+        let rows = in_both(asked).into_iter();
         let rows = rows.flat_map(|workload| sizes.iter().map(move |&size| row(workload, size)));
         let rows: Vec<Compared> = made(asked, rows);
         line("");

@@ -8,7 +8,7 @@ use words::{Asked, Command, Takes, Word};
 
 const COMMAND: Command = Command {
     name: "scale",
-    does: "compares the calls with the Rust at length",
+    does: "compares the calls at length with the Rust, and those that it does not have with the second implementation",
     plain: &[],
     needed: 0,
     options: &[

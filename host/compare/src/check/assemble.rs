@@ -19,6 +19,8 @@ lent! {
 }
 
 impl Case for Assemble {
+    type Answer = u64;
+
     const NAME: &'static str = "assemble";
     const NUMBERS: &'static [usize] = &[0, 1, 2, 4, 8];
     const WRITTEN: &'static [&'static str] = &["luma", "chroma1", "chroma2"];
@@ -71,7 +73,7 @@ impl Case for Assemble {
         }
     }
 
-    fn rust(&mut self) -> u64 {
+    fn theirs(&mut self) -> u64 {
         let models = self.models.chunks_exact(4);
         let models: Vec<_> = models.map(|m| (m[0], m[1], [m[2], m[3]])).collect();
         let size = (self.width, self.height);

@@ -1,5 +1,6 @@
 //! One input of one call, and the comparison of both sides on it.
 
+use super::answer::{unlike, Answer};
 #[cfg(test)]
 use super::damage::input;
 use super::expected::Length;
@@ -8,6 +9,9 @@ use super::rng::Rng;
 
 /// An input of a call.
 pub trait Case: Lent + Clone + 'static {
+    /// What the call answers.
+    type Answer: Answer;
+
     /// The call's name: the C function is `safeteal_NAME`, the safe one `ffi::NAME`.
     const NAME: &'static str;
     /// The numbers that the call can answer: a long run has to meet each of them.
@@ -16,6 +20,8 @@ pub trait Case: Lent + Clone + 'static {
     const WRITTEN: &'static [&'static str];
     /// Whether a NaN in an accepted call's floats stands for any NaN.
     const ANY_NAN: bool = false;
+    /// One input in so many is spoilt.
+    const SPOILT: usize = 200;
 
     /// A good input, at boundaries as well.
     fn random(rng: &mut Rng) -> Self;
@@ -26,17 +32,23 @@ pub trait Case: Lent + Clone + 'static {
     /// Brings numbers that depend on the sizes back to them, for a smaller input.
     fn tidy(&mut self) {}
 
+    /// Smaller inputs that no change of one argument by itself leads to.
+    fn smaller(&self) -> Vec<Self> {
+        Vec::new()
+    }
+
     /// What each slice must have in elements, in order. Asked of damaged inputs too.
     fn lengths(&self) -> Vec<Length>;
 
     /// Calls the proved library.
-    fn ours(&mut self) -> u64;
+    fn ours(&mut self) -> Self::Answer;
 
-    /// The first fitting number of the table's rows 1 to 7, or 0.
+    /// The first fitting number of the call's rows of the table, but for 8; or 0.
     fn refusal(&self) -> u64;
 
-    /// Leaves in an accepted input what the Rust leaves, and gives the rules' answer (8 is found here).
-    fn rust(&mut self) -> u64;
+    /// Leaves in an accepted input what the other side leaves, and gives the rules' answer (8 is found here). The other
+    /// side is the Rust, or a second implementation of a call that the Rust does not have.
+    fn theirs(&mut self) -> Self::Answer;
 
     /// The arguments that are free after this answer.
     fn free(_answer: u64) -> &'static [&'static str] {
@@ -44,10 +56,10 @@ pub trait Case: Lent + Clone + 'static {
     }
 
     /// Leaves what is right, and gives the right answer.
-    fn expected(&mut self) -> u64 {
+    fn expected(&mut self) -> Self::Answer {
         match self.refusal() {
-            0 => self.rust(),
-            number => number,
+            0 => self.theirs(),
+            number => Self::Answer::refused(number),
         }
     }
 
@@ -69,7 +81,7 @@ pub trait Case: Lent + Clone + 'static {
     }
 }
 
-/// Where the two sides differ, in words; with the right answer.
+/// Where the two sides differ, in words; with the right answer's word.
 pub struct Compared {
     pub answer: u64,
     pub difference: Option<String>,
@@ -79,21 +91,11 @@ pub struct Compared {
 pub fn compare<C: Case>(case: &C) -> Compared {
     let (mut ours, mut right) = (case.clone(), case.clone());
     let our_answer = ours.ours();
-    let answer = right.expected();
-    let difference = if our_answer == answer {
-        difference(&mut ours, &mut right, answer)
-    } else {
-        Some(format!(
-            "the answer is {}, not {}",
-            said(our_answer),
-            said(answer)
-        ))
-    };
+    let right_answer = right.expected();
+    let answer = right_answer.word();
+    let difference =
+        unlike(our_answer, right_answer).or_else(|| difference(&mut ours, &mut right, answer));
     Compared { answer, difference }
-}
-
-fn said(answer: u64) -> String {
-    format!("{answer} (number {}, count {})", answer % 256, answer / 256)
 }
 
 /// The first element of an argument that is not as it should be.
@@ -133,8 +135,8 @@ fn element<T: std::fmt::Debug>(
     Some(format!("[{at}] is {:?}, not {:?}", ours[at], right[at]))
 }
 
-/// The count that `rust` reckons is that of the bytes the Rust writes: a written byte does not depend on the one before
-/// it.
+/// The count that `theirs` reckons is that of the bytes the Rust writes: a written byte does not depend on the one
+/// before it.
 #[cfg(test)]
 pub fn assert_count_is_of_written_bytes<C: Case>(output: fn(&mut C) -> &mut Vec<u8>) {
     for index in 0..20_000 {
@@ -146,8 +148,8 @@ pub fn assert_count_is_of_written_bytes<C: Case>(output: fn(&mut C) -> &mut Vec<
         output(&mut other)
             .iter_mut()
             .for_each(|byte| *byte = !*byte);
-        let count = case.rust() / 256;
-        other.rust();
+        let count = case.theirs().word() / 256;
+        other.theirs();
         let bytes = output(&mut case).iter().zip(output(&mut other));
         let written = bytes.filter(|(a, b)| **a == **b);
         assert_eq!(written.count() as u64, count, "case {index}");

@@ -7,7 +7,7 @@ use super::rng::Rng;
 /// One input of a call: good twice out of three times, else with one fault or two.
 pub fn input<C: Case>(rng: &mut Rng) -> C {
     let mut case = C::random(rng);
-    if rng.once_in(200) {
+    if rng.once_in(C::SPOILT) {
         case.spoil(rng);
     }
     let faults = rng.pick(&[0, 0, 0, 0, 0, 0, 1, 1, 2]);

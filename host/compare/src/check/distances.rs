@@ -12,6 +12,8 @@ lent! {
 }
 
 impl Case for Distances {
+    type Answer = u64;
+
     const NAME: &'static str = "distances";
     const NUMBERS: &'static [usize] = &[0, 1];
     const WRITTEN: &'static [&'static str] = &["cells"];
@@ -46,7 +48,7 @@ impl Case for Distances {
         u64::from(self.width == 0)
     }
 
-    fn rust(&mut self) -> u64 {
+    fn theirs(&mut self) -> u64 {
         oracle::layer::distances(&mut self.cells, self.width);
         0
     }

@@ -12,6 +12,8 @@ lent! {
 }
 
 impl Case for Empty {
+    type Answer = u64;
+
     const NAME: &'static str = "empty";
     const NUMBERS: &'static [usize] = &[0, 1, 2, 3, 4];
     const WRITTEN: &'static [&'static str] = &[];
@@ -42,14 +44,10 @@ impl Case for Empty {
     }
 
     fn refusal(&self) -> u64 {
-        match self.layer.refusal(0) {
-            0 if self.layer.wrong_pitches() => 3,
-            0 if self.misfits() => 4,
-            number => number,
-        }
+        self.layer.refusal_alone(|| self.misfits())
     }
 
-    fn rust(&mut self) -> u64 {
+    fn theirs(&mut self) -> u64 {
         u64::from(rust::Layer::from(self.layer.lent()).empty()) * 256
     }
 }

@@ -1,5 +1,8 @@
 //! The rows of the refusal table, in whole numbers that do not wrap. Each call puts its rows together in order.
 
+/// The numbers that calls answer are below this.
+pub const NUMBERS: usize = 12;
+
 /// What a slice must have.
 #[derive(Clone, Copy, Debug)]
 pub enum Length {

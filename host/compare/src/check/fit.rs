@@ -165,6 +165,8 @@ impl Fit {
 }
 
 impl Case for Fit {
+    type Answer = u64;
+
     const NAME: &'static str = "fit";
     const NUMBERS: &'static [usize] = &[0, 1, 2, 4, 6, 7, 8];
     const WRITTEN: &'static [&'static str] =
@@ -229,7 +231,7 @@ impl Case for Fit {
         }
     }
 
-    fn rust(&mut self) -> u64 {
+    fn theirs(&mut self) -> u64 {
         let parts = [&self.previous, &self.own, &self.next].map(Part::rust);
         let parts = [parts[0].as_ref(), parts[1].as_ref(), parts[2].as_ref()];
         let size = (self.width, self.height);

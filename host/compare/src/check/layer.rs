@@ -1,4 +1,4 @@
-//! Layers lent to peel, unpeel, render and empty, as numbers and as bytes.
+//! Layers lent to peel, unpeel, render, empty and the writer of parcels, as numbers and as bytes.
 
 use std::mem::size_of;
 
@@ -123,6 +123,15 @@ impl<T: Number> Layer<T> {
     pub fn wrong_pitches(&self) -> bool {
         wrong_pitch(self.luma_pitch, self.width)
             || wrong_pitch(self.chroma_pitch, over(self.width, self.ratio))
+    }
+
+    /// Rows 1 to 4 of a call with a layer and no plane; `misfits` is row 4.
+    pub fn refusal_alone(&self, misfits: impl FnOnce() -> bool) -> u64 {
+        match self.refusal(0) {
+            0 if self.wrong_pitches() => 3,
+            0 if misfits() => 4,
+            number => number,
+        }
     }
 
     /// What each slice must have in elements: an odd byte adds no number.

@@ -20,6 +20,8 @@ lent! {
 }
 
 impl Case for Mask {
+    type Answer = u64;
+
     const NAME: &'static str = "mask";
     const NUMBERS: &'static [usize] = &[0, 1, 3, 4];
     const WRITTEN: &'static [&'static str] = &["still"];
@@ -73,7 +75,7 @@ impl Case for Mask {
         }
     }
 
-    fn rust(&mut self) -> u64 {
+    fn theirs(&mut self) -> u64 {
         self.still = oracle::still::mask(
             &self.first,
             &self.second,

@@ -57,6 +57,8 @@ impl<const PLANES: usize> Masked<PLANES> {
 /// The methods of `Case` that follow from `masked` and `put_to`.
 macro_rules! masked {
     ($call:ident, $mask_width:ident) => {
+        type Answer = u64;
+
         fn tidy(&mut self) {
             self.$mask_width = self.masked().whole_width();
         }
@@ -73,7 +75,7 @@ macro_rules! masked {
             self.masked().refusal(|| self.misfits())
         }
 
-        fn rust(&mut self) -> u64 {
+        fn theirs(&mut self) -> u64 {
             self.put_to($crate::oracle::still::$call);
             0
         }

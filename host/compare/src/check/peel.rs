@@ -28,6 +28,8 @@ impl<T: Number> Peel<T> {
 }
 
 impl<T: Number> Case for Peel<T> {
+    type Answer = u64;
+
     const NAME: &'static str = T::PEEL;
     const NUMBERS: &'static [usize] = &[0, 1, 2, 3, 4];
     const WRITTEN: &'static [&'static str] = &["output"];
@@ -77,7 +79,7 @@ impl<T: Number> Case for Peel<T> {
         }
     }
 
-    fn rust(&mut self) -> u64 {
+    fn theirs(&mut self) -> u64 {
         let (plane, numbers) = (self.plane, T::numbers(&self.layer));
         let (_, output, raw) = self.lent();
         let layer = rust::Layer::from(numbers.lent());

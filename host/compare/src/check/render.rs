@@ -33,6 +33,8 @@ impl Render {
 }
 
 impl Case for Render {
+    type Answer = u64;
+
     const NAME: &'static str = "render";
     const NUMBERS: &'static [usize] = &[0, 1, 2, 3, 4, 5, 6];
     const WRITTEN: &'static [&'static str] = &["output"];
@@ -78,7 +80,7 @@ impl Case for Render {
         }
     }
 
-    fn rust(&mut self) -> u64 {
+    fn theirs(&mut self) -> u64 {
         let (plane, motion) = (
             self.frames.plane,
             self.motion.lent(self.frames.layer.size(0)),

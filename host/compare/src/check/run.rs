@@ -3,8 +3,10 @@
 use std::panic::{catch_unwind, AssertUnwindSafe};
 use std::time::{Duration, Instant, SystemTime, UNIX_EPOCH};
 
+use super::answer::Answer;
 use super::case::{compare, Case, Compared};
 use super::damage::input;
+use super::expected::NUMBERS;
 use super::lent::{arguments, Argument};
 use super::rng::Rng;
 use super::show;
@@ -39,7 +41,7 @@ impl Until {
 /// What a run did: cases by the number of their answer, and the time it took.
 #[derive(Clone, Default)]
 pub struct Tally {
-    pub by_number: [u64; 9],
+    pub by_number: [u64; NUMBERS],
     pub counted: u64,
     pub time: Duration,
 }
@@ -69,7 +71,7 @@ impl Tally {
 
     /// One line: cases, rate, and how many answers had each number.
     pub fn line(&self) -> String {
-        let numbers: Vec<String> = (0..9)
+        let numbers: Vec<String> = (0..NUMBERS)
             .filter(|&number| self.by_number[number] > 0)
             .map(|number| format!("{number}: {}", self.by_number[number]))
             .collect();
@@ -84,25 +86,33 @@ impl Tally {
 
 /// A call that can be compared, whatever the type of its inputs.
 pub struct Call {
-    /// Its number in the stored list.
-    pub id: u32,
     pub name: &'static str,
     /// The numbers it can answer.
     pub numbers: &'static [usize],
     run: fn(u64, Until) -> Result<Tally, String>,
     alone: fn(u64, u64) -> Tally,
-    record: fn(u32, u64, usize) -> stored::Stored,
+    /// Its number in the stored list, where it is in there, and what makes its cases.
+    stored: Option<(u32, Record)>,
 }
 
+type Record = fn(u32, u64, usize) -> stored::Stored;
+
 impl Call {
-    pub const fn of<C: Case>(id: u32) -> Self {
+    pub const fn of<C: Case>() -> Self {
         Self {
-            id,
             name: C::NAME,
             numbers: C::NUMBERS,
             run: run::<C>,
             alone: alone::<C>,
-            record: stored::record::<C>,
+            stored: None,
+        }
+    }
+
+    /// A call of the stored list.
+    pub const fn stored<C: Case<Answer = u64>>(id: u32) -> Self {
+        Self {
+            stored: Some((id, stored::record::<C>)),
+            ..Self::of::<C>()
         }
     }
 
@@ -126,9 +136,15 @@ impl Call {
             .collect()
     }
 
-    /// At most so many bytes of stored cases.
+    /// Whether its cases are in the stored list.
+    pub fn is_stored(&self) -> bool {
+        self.stored.is_some()
+    }
+
+    /// At most so many bytes of stored cases; none of a call that is not in the list.
     pub fn record(&self, seed: u64, bytes: usize) -> stored::Stored {
-        (self.record)(self.id, seed, bytes)
+        let made = |(id, record): (u32, Record)| record(id, seed, bytes);
+        self.stored.map(made).unwrap_or_default()
     }
 }
 
@@ -172,7 +188,7 @@ fn alone<C: Case>(seed: u64, cases: u64) -> Tally {
     for index in 0..cases {
         let mut case = input::<C>(&mut Rng::of(seed, C::NAME, index));
         arguments(&mut case).iter_mut().for_each(Argument::tighten);
-        tally.note(case.ours());
+        tally.note(case.ours().word());
     }
     tally.time = start.elapsed();
     tally

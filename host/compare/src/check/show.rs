@@ -2,6 +2,7 @@
 
 use std::fmt::Write;
 
+use super::answer::Answer;
 use super::case::Case;
 use super::lent::{arguments, Argument, Value};
 
@@ -9,22 +10,29 @@ use super::lent::{arguments, Argument, Value};
 pub fn test<C: Case>(case: &C) -> String {
     let mut after = case.clone();
     let answer = after.expected();
-    let free = C::free(answer);
-    let mut text = call(case);
-    let (count, number) = (answer / 256, answer % 256);
-    let _ = writeln!(
-        text,
-        "    assert_eq!(answer, {answer}); // {count} * 256 + {number}"
-    );
+    let free = C::free(answer.word());
+    let mut text = call(case) + &answered(answer);
     let compared = |argument: &Argument| {
         let is = |name: &&str| argument.is(name);
         C::WRITTEN.iter().any(is) && !free.iter().any(is)
     };
-    let any_nan = C::ANY_NAN && number == 0;
+    let any_nan = C::ANY_NAN && answer.word() % 256 == 0;
     for argument in arguments(&mut after).into_iter().filter(compared) {
         text += &assertion(&argument, any_nan);
     }
     text + "}\n"
+}
+
+/// The lines that ask for the answer, number by number.
+fn answered<A: Answer>(answer: A) -> String {
+    let (count, number) = (answer.word() / 256, answer.word() % 256);
+    let line = |(at, (name, value)): (usize, (&str, u64))| {
+        let field = if name.is_empty() { "" } else { "." };
+        let said = format!(" // {count} * 256 + {number}");
+        let said = if at == 0 { said.as_str() } else { "" };
+        format!("    assert_eq!(answer{field}{name}, {value});{said}\n")
+    };
+    answer.fields().into_iter().enumerate().map(line).collect()
 }
 
 /// The line that asks for an argument as it is here: floats by their bits, any NaN for any other where that will do.

@@ -18,6 +18,7 @@ pub fn shrink<C: Case>(case: C) -> C {
     let mut best = case;
     loop {
         let before = weight(&mut best);
+        best = by_itself(best, until);
         for at in 0..arguments(&mut best).len() {
             for step in STEPS {
                 while let Some(smaller) = tried(&best, at, *step) {
@@ -59,10 +60,27 @@ fn tried<C: Case>(case: &C, at: usize, step: Step) -> Option<C> {
     if !change(&mut arguments(&mut smaller)[at].value, step) {
         return None;
     }
+    lighter(case, smaller)
+}
+
+/// The smaller input with all slices brought to their lengths, or as it is, where it weighs less and still fails.
+fn lighter<C: Case>(case: &C, smaller: C) -> Option<C> {
     let before = weight(&mut case.clone());
     let mended = [End::Back, End::Front].map(|end| mended(&smaller, end));
     let mut candidates = mended.into_iter().flatten().chain([smaller]);
     candidates.find(|candidate| weight(&mut candidate.clone()) < before && fails(candidate))
+}
+
+/// The input made smaller as long as the case itself knows how.
+fn by_itself<C: Case>(mut best: C, until: Instant) -> C {
+    while Instant::now() < until {
+        let mut smaller = best.smaller().into_iter();
+        let Some(found) = smaller.find_map(|smaller| lighter(&best, smaller)) else {
+            break;
+        };
+        best = found;
+    }
+    best
 }
 
 fn fails<C: Case>(case: &C) -> bool {

@@ -89,6 +89,8 @@ impl Stats {
 }
 
 impl Case for Stats {
+    type Answer = u64;
+
     const NAME: &'static str = "stats";
     const NUMBERS: &'static [usize] = &[0, 1, 2, 3, 4, 5, 7];
     const WRITTEN: &'static [&'static str] = &["luma", "chroma1", "chroma2"];
@@ -172,7 +174,7 @@ impl Case for Stats {
     }
 
     /// The Rust starts from 0.0 and adds pair after pair, so that one pair more is one addition more to each sum.
-    fn rust(&mut self) -> u64 {
+    fn theirs(&mut self) -> u64 {
         let (start, size, ratio) = (self.pairs == 0, (self.width, self.height), self.ratio);
         let (luma, [chroma1, chroma2], pair) = self.lent();
         let one = rust::stats(&[pair.into()], size, ratio);
@@ -220,7 +222,7 @@ mod tests {
             let both = rust::stats(&[pair.into(), turned.into()], size, ratio);
 
             first.pairs = 0;
-            first.rust();
+            first.theirs();
             let mut second = Stats {
                 first0: first.second0.clone(),
                 first1: first.second1.clone(),
@@ -231,7 +233,7 @@ mod tests {
                 pairs: 1,
                 ..first
             };
-            second.rust();
+            second.theirs();
             assert_eq!(second.luma, both.luma().as_flattened(), "case {index}");
             assert_eq!(
                 second.chroma1,

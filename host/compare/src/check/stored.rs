@@ -1,4 +1,5 @@
-//! The stored list of right answers, which the program crates/replay runs where no Rust is at hand.
+//! The stored list of the Rust's answers, which the program crates/replay runs where no Rust is at hand. Calls that the
+//! Rust does not have are not in it.
 //!
 //! All numbers are little-endian. The file is one case after another, to its end. A case is
 //!
@@ -16,6 +17,7 @@
 
 use super::case::Case;
 use super::damage::input;
+use super::expected::NUMBERS;
 use super::lent::{arguments, Argument, Value};
 use super::rng::Rng;
 
@@ -37,9 +39,9 @@ pub struct Stored {
 
 /// Cases of one call, at most so many bytes of them: first some of each refusal, then accepted ones, a larger one
 /// after three small ones.
-pub fn record<C: Case>(id: u32, seed: u64, bytes: usize) -> Stored {
+pub fn record<C: Case<Answer = u64>>(id: u32, seed: u64, bytes: usize) -> Stored {
     let mut made = Stored::default();
-    let (mut refused, mut small, mut large) = (vec![Vec::new(); 9], Vec::new(), Vec::new());
+    let (mut refused, mut small, mut large) = (vec![Vec::new(); NUMBERS], Vec::new(), Vec::new());
     for index in 0..LOOKED_AT {
         let case: C = input(&mut Rng::of(seed, C::NAME, index));
         let number = (case.clone().expected() % 256) as usize;
@@ -74,7 +76,7 @@ pub fn record<C: Case>(id: u32, seed: u64, bytes: usize) -> Stored {
 }
 
 /// One case in the file's form.
-fn stored<C: Case>(id: u32, case: &C) -> Vec<u8> {
+fn stored<C: Case<Answer = u64>>(id: u32, case: &C) -> Vec<u8> {
     let (mut before, mut after) = (case.clone(), case.clone());
     let answer = after.expected();
     let free = C::free(answer);

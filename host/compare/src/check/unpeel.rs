@@ -72,6 +72,8 @@ impl<T: Number> Unpeel<T> {
 }
 
 impl<T: Number> Case for Unpeel<T> {
+    type Answer = u64;
+
     const NAME: &'static str = T::UNPEEL;
     const NUMBERS: &'static [usize] = &[0, 1, 2, 3, 4, 6];
     const WRITTEN: &'static [&'static str] = &["output"];
@@ -102,7 +104,7 @@ impl<T: Number> Case for Unpeel<T> {
         }
     }
 
-    fn rust(&mut self) -> u64 {
+    fn theirs(&mut self) -> u64 {
         let (plane, numbers) = (self.plane, T::numbers(&self.layer));
         let (_, output, frames) = self.lent();
         let layer = rust::Layer::from(numbers.lent());

@@ -1,9 +1,9 @@
-//! The chart of the calls as SVG: for each call where its ratios lie. It has a ground of its own, so that it can be
-//! read on any page, and turns dark where the reader's system is.
+//! The chart of the calls as SVG: for each call beside the Rust where its ratios lie. It has a ground of its own, so
+//! that it can be read on any page, and turns dark where the reader's system is.
 
 use std::fmt::Write;
 
-use super::rows::Row;
+use super::rows::{Beside, Row};
 use super::table::{by_call, milliseconds, Summary};
 
 /// The picture's width, the plot's left and right edges, its top, and the height of a call's band.
@@ -70,9 +70,12 @@ impl Axis {
     }
 }
 
-/// The chart of these rows.
-pub fn chart(rows: &[Row]) -> String {
-    let calls = by_call(rows);
+/// The chart of these rows; none where nothing stands beside the Rust.
+pub fn chart(rows: &[Row]) -> Option<String> {
+    let calls = by_call(rows, Beside::Rust);
+    if calls.is_empty() {
+        return None;
+    }
     let worst = calls.iter().map(|call| call.worst().ratio);
     let axis = Axis::of(worst.fold(0.0, f64::max));
     let bottom = TOP + BAND * calls.len() as f64;
@@ -93,7 +96,7 @@ pub fn chart(rows: &[Row]) -> String {
     for (number, call) in calls.iter().enumerate() {
         band(&mut svg, &axis, call, TOP + BAND * (number as f64 + 0.5));
     }
-    svg + "</svg>\n"
+    Some(svg + "</svg>\n")
 }
 
 /// What the chart shows, for a reader who does not see it.
@@ -202,6 +205,7 @@ fn escaped(words: &str) -> String {
 mod tests {
     use super::{chart, Axis};
     use crate::report::rows::tests::row;
+    use crate::report::rows::Beside;
 
     /// The numbers of an attribute, in order.
     fn numbers(svg: &str, before: &str) -> Vec<f64> {
@@ -230,10 +234,21 @@ mod tests {
             row("peel", "a", (64, 64), 1.0, 2.0),
             row("a<b", "a", (64, 64), 1.0, 1.0),
         ];
-        let svg = chart(&rows);
+        let svg = chart(&rows).expect("calls beside the Rust");
         assert_eq!(numbers(&svg, " cx=\""), [415.0, 690.0]);
         assert!(svg.contains(">a&lt;b</text>") && !svg.contains("a<b"));
         assert!(svg.contains("median: peel 0.50, a&lt;b 1.00</title>"));
+    }
+
+    /// It is of shares of the Rust's time: what stands beside a copy is not in it.
+    #[test]
+    fn copies_are_not_in_it() {
+        let rust = row("peel", "a", (64, 64), 1.0, 2.0);
+        let mut copy = row("parcel_read", "a", (64, 64), 9.0, 1.0);
+        copy.beside = Beside::Copy;
+        let both = [rust.clone(), copy.clone()];
+        assert_eq!(chart(&both), chart(&[rust]));
+        assert_eq!(chart(&[copy]), None);
     }
 
     #[test]
@@ -244,7 +259,7 @@ mod tests {
             .enumerate()
             .map(|(at, call)| row(call, "a", (64, 64), at as f64, 6.0))
             .collect();
-        let svg = chart(&rows);
+        let svg = chart(&rows).expect("calls beside the Rust");
         let (wide, high) = (
             numbers(&svg, " width=\"")[0],
             numbers(&svg, " height=\"")[0],

@@ -41,7 +41,7 @@ impl Reported for Row {
     }
 
     fn chart(rows: &[Self]) -> Option<String> {
-        Some(chart(rows))
+        chart(rows)
     }
 }
 

@@ -2,26 +2,55 @@
 
 use super::csv::{Fields, Record};
 
-/// One workload of one call at one size, beside the Rust.
+/// What stands beside a call.
+#[derive(Clone, Copy, Debug, PartialEq, Eq)]
+pub enum Beside {
+    /// The Rust's own function.
+    Rust,
+    /// A plain copy of as many bytes: the Rust has no such call.
+    Copy,
+}
+
+impl Beside {
+    pub const ALL: [Self; 2] = [Self::Rust, Self::Copy];
+
+    /// As it stands in a row.
+    pub fn name(self) -> &'static str {
+        match self {
+            Self::Rust => "the Rust",
+            Self::Copy => "a copy",
+        }
+    }
+
+    fn of(text: &str) -> Result<Self, String> {
+        let found = Self::ALL.into_iter().find(|beside| beside.name() == text);
+        let names = Self::ALL.map(Self::name).join("\" or \"");
+        found.ok_or_else(|| format!("{text:?} stands where \"{names}\" must"))
+    }
+}
+
+/// One workload of one call at one size, beside the Rust or a copy.
 #[derive(Clone, Debug, PartialEq)]
 pub struct Row {
     pub call: String,
     pub workload: String,
     pub size: (usize, usize),
+    pub beside: Beside,
     /// Nanoseconds per pixel, the median of the rounds; and the first as a share of the second.
     pub ours: f64,
-    pub rust: f64,
+    pub other: f64,
     pub ratio: f64,
     /// How wide the middle half of the rounds' ratios is, as a share of their median.
     pub spread: Option<f64>,
     pub rounds: usize,
-    /// What the times are divided by: the pixels of the plane, or the cells.
+    /// What the times are divided by: the pixels of the plane, the cells or the records.
     pub pixels: usize,
 }
 
 impl Fields for Row {
     const HEAD: &'static [&'static str] = &[
-        "call", "workload", "size", "ours_ns", "rust_ns", "ratio", "spread", "rounds", "pixels",
+        "call", "workload", "size", "beside", "ours_ns", "other_ns", "ratio", "spread", "rounds",
+        "pixels",
     ];
 
     fn fields(&self) -> Vec<String> {
@@ -29,8 +58,9 @@ impl Fields for Row {
             self.call.clone(),
             self.workload.clone(),
             sized(self.size),
+            self.beside.name().to_owned(),
             four(self.ours),
-            four(self.rust),
+            four(self.other),
             four(self.ratio),
             self.spread.map_or(String::new(), four),
             self.rounds.to_string(),
@@ -41,17 +71,18 @@ impl Fields for Row {
 
 impl Record for Row {
     fn of(fields: &[String]) -> Result<Self, String> {
-        let spread = Some(&fields[6]).filter(|field| !field.is_empty());
+        let spread = Some(&fields[7]).filter(|field| !field.is_empty());
         Ok(Self {
             call: fields[0].clone(),
             workload: fields[1].clone(),
             size: size(&fields[2])?,
-            ours: number(&fields[3])?,
-            rust: number(&fields[4])?,
-            ratio: share(&fields[5], &fields[3], &fields[4])?,
+            beside: Beside::of(&fields[3])?,
+            ours: number(&fields[4])?,
+            other: number(&fields[5])?,
+            ratio: share(&fields[6], &fields[4], &fields[5])?,
             spread: spread.map(|field| number(field)).transpose()?,
-            rounds: whole(&fields[7])?,
-            pixels: whole(&fields[8])?,
+            rounds: whole(&fields[8])?,
+            pixels: whole(&fields[9])?,
         })
     }
 }
@@ -140,18 +171,19 @@ fn share(text: &str, over: &str, under: &str) -> Result<f64, String> {
 
 #[cfg(test)]
 pub mod tests {
-    use super::{Growth, Row};
+    use super::{Beside, Growth, Row};
     use crate::report::csv::{read, written};
 
     /// A made-up row.
-    pub fn row(call: &str, workload: &str, size: (usize, usize), ours: f64, rust: f64) -> Row {
+    pub fn row(call: &str, workload: &str, size: (usize, usize), ours: f64, other: f64) -> Row {
         Row {
             call: call.to_owned(),
             workload: workload.to_owned(),
             size,
+            beside: Beside::Rust,
             ours,
-            rust,
-            ratio: ours / rust,
+            other,
+            ratio: ours / other,
             spread: Some(0.02),
             rounds: 9,
             pixels: size.0 * size.1,
@@ -164,10 +196,12 @@ pub mod tests {
             row("hold", "step 3×1, all marked", (64, 64), 0.25, 1.0),
             row("peel", "a fitted logo, luma", (1920, 1080), 3.5, 7.0),
         ];
+        rows[0].beside = Beside::Copy;
         rows[1].spread = None;
         let text = written(&rows);
         assert_eq!(read::<Row>(&text).expect("its own text"), rows);
-        let line = "peel,\"a fitted logo, luma\",1920x1080,3.5000,7.0000,0.5000,,9,2073600\n";
+        let line =
+            "peel,\"a fitted logo, luma\",1920x1080,the Rust,3.5000,7.0000,0.5000,,9,2073600\n";
         assert!(text.ends_with(line), "{text}");
         let growth = Growth {
             call: "mask".to_owned(),
@@ -187,24 +221,31 @@ pub mod tests {
         let text = |line: &str| format!("{}{line}\n", written::<Row>(&[]));
         let wrong = [
             (
-                "a,b,64x64,1.00,2.00,0.60,,1,1",
+                "a,b,64x64,the Rust,1.00,2.00,0.60,,1,1",
                 "line 2: 0.60 is not 1.00 / 2.00",
             ),
             (
-                "a,b,64x64,1.00,2.00,0.49,,1,1",
+                "a,b,64x64,the Rust,1.00,2.00,0.49,,1,1",
                 "line 2: 0.49 is not 1.00 / 2.00",
             ),
-            ("a,b,64,1.00,2.00,0.50,,1,1", "line 2: \"64\" is no size"),
             (
-                "a,b,64x64,-1,2.00,0.50,,1,1",
+                "a,b,64,the Rust,1.00,2.00,0.50,,1,1",
+                "line 2: \"64\" is no size",
+            ),
+            (
+                "a,b,64x64,it,1.00,2.00,0.50,,1,1",
+                "line 2: \"it\" stands where \"the Rust\" or \"a copy\" must",
+            ),
+            (
+                "a,b,64x64,the Rust,-1,2.00,0.50,,1,1",
                 "line 2: \"-1\" is no number of 0 or more",
             ),
             (
-                "a,b,64x64,1.00,NaN,0.50,,1,1",
+                "a,b,64x64,a copy,1.00,NaN,0.50,,1,1",
                 "line 2: \"NaN\" is no number",
             ),
             (
-                "a,b,64x64,1.00,2.00,0.50,,0,1",
+                "a,b,64x64,a copy,1.00,2.00,0.50,,0,1",
                 "line 2: \"0\" is no whole number",
             ),
         ];
@@ -213,6 +254,6 @@ pub mod tests {
             assert!(words.starts_with(part), "{line}: {words}");
         }
         // Few decimals leave room: 0.0545 / 0.325 is 0.17.
-        assert!(read::<Row>(&text("a,b,64x64,0.05,0.33,0.17,,1,1")).is_ok());
+        assert!(read::<Row>(&text("a,b,64x64,a copy,0.05,0.33,0.17,,1,1")).is_ok());
     }
 }

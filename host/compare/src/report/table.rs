@@ -1,7 +1,7 @@
 //! The tables of docs/BENCHMARK.md: a line for each call, in the order of the rows.
 
 use super::quantile;
-use super::rows::{Growth, Row};
+use super::rows::{Beside, Growth, Row};
 
 /// The size whose time is given, and what a call does for one frame of it: each group is of workloads and how often
 /// each is done. A call's frame is the first group that it has all workloads of; chroma has two planes.
@@ -16,6 +16,8 @@ pub const FRAMES: &[&[(&str, usize)]] = &[
     &[("one pair, all planes, smooth motion", 1)],
     &[("a logo", 1)],
     &[("three parts of twelve pairs", 1)],
+    &[("a whole layer", 1)],
+    &[("six records, per record", 1)],
 ];
 
 /// The rows of one call, together.
@@ -37,13 +39,13 @@ impl<'a> Summary<'a> {
         worst.expect("a call that is named has a row")
     }
 
-    /// Milliseconds for a frame, ours and the Rust's, where its workloads were measured at that size.
+    /// Milliseconds for a frame, ours and the other's, where its workloads were measured at that size.
     pub fn frame(&self) -> Option<(f64, f64)> {
         let of = |&(workload, times): &(&str, usize)| {
             let mut rows = self.rows.iter();
             let row = rows.find(|row| row.workload == workload && row.size == FRAME)?;
             let pixels = (row.pixels * times) as f64 / 1e6;
-            Some((row.ours * pixels, row.rust * pixels))
+            Some((row.ours * pixels, row.other * pixels))
         };
         let whole = |group: &&[(&str, usize)]| {
             let parts: Option<Vec<(f64, f64)>> = group.iter().map(of).collect();
@@ -64,24 +66,25 @@ impl<'a> Summary<'a> {
     }
 
     fn line(&self) -> String {
-        let (ours, rust) = match self.frame() {
-            Some((ours, rust)) => (milliseconds(ours), milliseconds(rust)),
+        let (ours, other) = match self.frame() {
+            Some((ours, other)) => (milliseconds(ours), milliseconds(other)),
             None => ("-".to_owned(), "-".to_owned()),
         };
         let (call, median, worst) = (self.call, self.ratio(50), self.worst());
         let spread = self.spread();
         let (name, ratio) = (named(&worst.workload, worst.size), worst.ratio);
-        format!("| {call} | {median:.2} | {ratio:.2} | {name} | {ours} | {rust} | {spread} |\n")
+        format!("| {call} | {median:.2} | {ratio:.2} | {name} | {ours} | {other} | {spread} |\n")
     }
 }
 
-/// With three digits.
+/// With three digits; of less than a microsecond the nanoseconds are the last.
 pub fn milliseconds(time: f64) -> String {
     let decimals = match time {
         _ if time >= 100.0 => 0,
         _ if time >= 10.0 => 1,
         _ if time >= 1.0 => 2,
-        _ => 3,
+        _ if time >= 0.001 => 3,
+        _ => 6,
     };
     format!("{time:.decimals$}")
 }
@@ -91,7 +94,10 @@ fn named(workload: &str, (width, height): (usize, usize)) -> String {
 }
 
 /// The calls in the order in which the rows name them, each with its rows.
-fn grouped<'a, R>(rows: &'a [R], call: impl Fn(&'a R) -> &'a str) -> Vec<(&'a str, Vec<&'a R>)> {
+fn grouped<'a, R>(
+    rows: impl IntoIterator<Item = &'a R>,
+    call: impl Fn(&'a R) -> &'a str,
+) -> Vec<(&'a str, Vec<&'a R>)> {
     let mut calls: Vec<(&str, Vec<&R>)> = Vec::new();
     for row in rows {
         match calls.iter_mut().find(|(name, _)| *name == call(row)) {
@@ -102,29 +108,57 @@ fn grouped<'a, R>(rows: &'a [R], call: impl Fn(&'a R) -> &'a str) -> Vec<(&'a st
     calls
 }
 
-/// The calls in the order in which the rows name them.
-pub fn by_call(rows: &[Row]) -> Vec<Summary<'_>> {
+/// The calls beside the Rust, or beside a copy, in the order in which the rows name them.
+pub fn by_call(rows: &[Row], beside: Beside) -> Vec<Summary<'_>> {
+    let rows = rows.iter().filter(|row| row.beside == beside);
     let calls = grouped(rows, |row| &row.call).into_iter();
     calls.map(|(call, rows)| Summary { call, rows }).collect()
 }
 
-const HEAD: &str = "\
-| Call | Ours / Rust, median | Worst | The worst workload | Frame of 1920×1080, ours, ms | The Rust, ms \
-| Spread, middle row (widest) |
-|---|---|---|---|---|---|---|
+/// The first two lines of a table.
+fn head(beside: Beside) -> String {
+    let other = match beside {
+        Beside::Rust => "Rust",
+        Beside::Copy => "copy",
+    };
+    format!(
+        "| Call | Ours / {other}, median | Worst | The worst workload | Frame of 1920×1080, ours, ms | The {other}, ms \
+         | Spread, middle row (widest) |\n|---|---|---|---|---|---|---|\n"
+    )
+}
+
+const COPIES: &str = "\
+The Rust has no parcels. What stands beside these calls is no other way to do the same, but a plain copy of as many
+bytes (`copy_from_slice`), by turns and in the same run: of the whole parcel; for parcel_sizes of 42 bytes, the lengths
+and kinds of six records and the head.
 ";
 
-/// A line for each call, and one for all.
+/// A table of the calls beside the Rust, with a line for each call and one for all; then one of those beside a copy,
+/// which says so.
 pub fn calls(rows: &[Row]) -> String {
-    let lines: String = by_call(rows).iter().map(Summary::line).collect();
+    let [beside_rust, beside_copy] = Beside::ALL.map(|beside| by_call(rows, beside));
+    let lines = |calls: &[Summary]| calls.iter().map(Summary::line).collect::<String>();
+    let mut tables = Vec::new();
+    if !beside_rust.is_empty() {
+        let (head, lines) = (head(Beside::Rust), lines(&beside_rust));
+        tables.push(head + &lines + &line_for_all(&beside_rust));
+    }
+    if !beside_copy.is_empty() {
+        let (head, lines) = (head(Beside::Copy), lines(&beside_copy));
+        tables.push(format!("{COPIES}\n{head}{lines}"));
+    }
+    tables.join("\n")
+}
+
+fn line_for_all(calls: &[Summary<'_>]) -> String {
     let all = Summary {
         call: "all",
-        rows: rows.iter().collect(),
+        rows: calls.iter().flat_map(|call| call.rows.clone()).collect(),
     };
     let (median, worst) = (all.ratio(50), all.worst());
     let name = format!("{}, {}", worst.call, named(&worst.workload, worst.size));
     let (ratio, spread) = (worst.ratio, all.spread());
-    format!("{HEAD}{lines}| all | {median:.2} | {ratio:.2} | {name} | | | {spread} |\n")
+    format!("| all | {median:.2} | {ratio:.2} | {name} | | | {spread} |\n")
 }
 
 const GROWTH_HEAD: &str = "\
@@ -147,9 +181,9 @@ pub fn growths(rows: &[Growth]) -> String {
 
 #[cfg(test)]
 mod tests {
-    use super::{by_call, calls, growths, milliseconds};
+    use super::{by_call, calls, growths, milliseconds, COPIES};
     use crate::report::rows::tests::row;
-    use crate::report::rows::{Growth, Row};
+    use crate::report::rows::{Beside, Growth, Row};
 
     fn rows() -> Vec<Row> {
         let mut rows = vec![
@@ -176,17 +210,36 @@ mod tests {
         assert_eq!(lines, [peel, mask, all]);
     }
 
+    /// What stands beside a copy has a table of its own, which says so, and is not in the line for all.
+    #[test]
+    fn copies_have_a_table_of_their_own() {
+        let mut copy = row("parcel_read", "a whole layer", (1920, 1080), 3.0, 1.0);
+        copy.beside = Beside::Copy;
+        let both = calls(&[rows(), vec![copy.clone()]].concat());
+        let alone = calls(&[copy]);
+        assert_eq!(both, format!("{}\n{alone}", calls(&rows())));
+        let lines: Vec<&str> = alone.trim_start_matches(COPIES).lines().collect();
+        assert!(lines[1].starts_with("| Call | Ours / copy, median |"));
+        assert!(lines[1].contains("| The copy, ms |"));
+        let read = "| parcel_read | 3.00 | 3.00 | a whole layer, 1920×1080 | 6.22 | 2.07 | 2.0 % (2.0 %) |";
+        assert_eq!(lines[3..], [read]);
+    }
+
     #[test]
     fn a_frame_needs_all_its_workloads() {
         let rows = rows();
-        assert!(by_call(&rows)[0].frame().is_some());
-        assert_eq!(by_call(&rows[..2])[0].frame(), None);
+        let frame = |rows: &[Row]| by_call(rows, Beside::Rust)[0].frame();
+        assert!(frame(&rows).is_some());
+        assert_eq!(frame(&rows[..2]), None);
     }
 
     #[test]
     fn three_digits() {
-        let shown = [0.00123, 0.5, 1.234, 12.34, 1234.5].map(milliseconds);
-        assert_eq!(shown, ["0.001", "0.500", "1.23", "12.3", "1234"]);
+        let shown = [0.000_035_4, 0.00123, 0.5, 1.234, 12.34, 1234.5].map(milliseconds);
+        assert_eq!(
+            shown,
+            ["0.000035", "0.001", "0.500", "1.23", "12.3", "1234"]
+        );
     }
 
     #[test]

@@ -46,7 +46,7 @@ fn assembled(
             .ratio(ratio.number(), size)
             .exactly("models", models.len(), Why::Pixels(4, size))
             .exactly("cover", cover.len(), Why::Cells(size))
-            .slices(["luma", "chroma[0]", "chroma[1]"], lengths, 2, size, ratio)
+            .layer_slices(lengths, size, ratio)
             .total(models, (size, ratio), "give smaller offsets")
     })
 }

@@ -89,7 +89,7 @@ pub(crate) fn fitted(
             .exactly("models", work.models.len(), Why::Pixels(4, size))
             .exactly("kept", work.kept.len(), Why::Pixels(1, size))
             .exactly("cover", work.cover.len(), Why::Cells(size))
-            .slices(["luma", "chroma[0]", "chroma[1]"], lengths, 2, size, ratio)
+            .layer_slices(lengths, size, ratio)
             .setting("limit", settings.limit, [0.5, 255.0])
             .setting("evidence", settings.evidence, [0.0, 65_536.0])
             .pairs_beside("previous", "the number of pairs in previous", previous)

@@ -44,7 +44,13 @@ impl Search {
         })
     }
 
-    fn sizes(self, refusal: Refusal, name: &'static str, value: usize, limits: [usize; 2]) -> Self {
+    pub(super) fn sizes(
+        self,
+        refusal: Refusal,
+        name: &'static str,
+        value: usize,
+        limits: [usize; 2],
+    ) -> Self {
         self.range(refusal, name, Number::Size, value, limits)
     }
 
@@ -169,6 +175,11 @@ impl Search {
         self.exactly(names[0], lengths[0], Why::Pixels(each, size))
             .exactly(names[1], lengths[1], chroma)
             .exactly(names[2], lengths[2], chroma)
+    }
+
+    /// The slices of a layer that is written.
+    pub fn layer_slices(self, lengths: [usize; 3], size: Size, ratio: Ratio) -> Self {
+        self.slices(["luma", "chroma[0]", "chroma[1]"], lengths, 2, size, ratio)
     }
 
     /// The sums of a part.

@@ -16,6 +16,8 @@ pub(crate) enum Why {
     Bytes(Size),
     /// A byte for each pixel of each plane.
     Packed(Shape),
+    /// The records of a parcel.
+    Parcel(Shape),
     /// A byte for each 8 by 8 cell.
     Cells(Size),
     /// The two halves of a layer's slice, each of so many rows of so many numbers.
@@ -33,6 +35,7 @@ impl Why {
                 let chroma = size.plane(Channel::Chroma1, ratio);
                 size.width * size.height + 2 * chroma.width * chroma.height
             }
+            Why::Parcel((size, ratio)) => size.parcel(ratio),
             Why::Cells(size) => size.cells(),
             Why::Halves(rows, row) => 2 * rows * row,
         }
@@ -57,7 +60,7 @@ impl Why {
     fn many(self, count: usize) -> String {
         let what = match self {
             Why::Rows(..) | Why::Cells(_) | Why::Pixels(1, _) => "byte",
-            Why::Bytes(_) | Why::Packed(_) => "byte",
+            Why::Bytes(_) | Why::Packed(_) | Why::Parcel(_) => "byte",
             Why::Pixels(..) | Why::Halves(..) => "number",
         };
         many(count, what)
@@ -83,6 +86,9 @@ impl fmt::Display for Why {
                     f,
                     "{size} pixels of luma, and {chroma} of each chroma plane"
                 )
+            }
+            Why::Parcel((size, ratio)) => {
+                write!(f, "a parcel of a layer of {size} at ratio {ratio}")
             }
             Why::Cells(size) => write!(f, "1 for each 8 by 8 cell of {size} pixels"),
             Why::Halves(rows, row) => {

@@ -1,0 +1,4 @@
+pub mod Fits
+pub mod Layers
+pub mod Refused
+pub mod Told
