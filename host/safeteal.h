@@ -37,8 +37,7 @@
    word of struct safeteal_sizes. Number 0 is acceptance, and the count is then the pixels written by peel, unpeel and
    render, and 0 for the others (safeteal_empty has its yes there). Any other number is a refusal, of enum
    safeteal_refusal; where several would do, it is the lowest, but safeteal_parcel_read tests 9, 10 and 11 before 4. Its
-   count is 0, and every slice is as it was: the one exception is 8 in safeteal_fit, which leaves its three work slices
-   in no certain state.
+   count is 0, and every slice is as it was.
 
        uint64_t answer = safeteal_peel(..);
        enum safeteal_refusal number = safeteal_number(answer);
@@ -80,7 +79,7 @@ extern "C" {
 
 /* ---- Answers ---- */
 
-/* The number of an answer; safeteal_refusal_words says what each means. */
+/* The number of an answer; safeteal_refusal_words says what each means. Number 8 is not given by any call. */
 enum safeteal_refusal {
     SAFETEAL_ACCEPTED = 0,
     SAFETEAL_REFUSED_SIZE = 1,
@@ -90,7 +89,6 @@ enum safeteal_refusal {
     SAFETEAL_REFUSED_MOTION = 5,
     SAFETEAL_REFUSED_SETTING = 6,
     SAFETEAL_REFUSED_PAIRS = 7,
-    SAFETEAL_REFUSED_CHROMA_TOTAL = 8,
     SAFETEAL_REFUSED_RECORD = 9,
     SAFETEAL_REFUSED_KIND = 10,
     SAFETEAL_REFUSED_PAYLOAD = 11
@@ -136,9 +134,6 @@ static inline const char *safeteal_refusal_words(enum safeteal_refusal number) {
     case SAFETEAL_REFUSED_PAIRS:
         return "a number of pairs is outside its range: 0 to 11 summed before safeteal_stats; "
                "in safeteal_fit 1 to 12 of the part itself and 0 to 12 of a neighbour";
-    case SAFETEAL_REFUSED_CHROMA_TOTAL:
-        return "a chroma offset total is outside -32768 to 32767: the colour cast is too strong to be stored; "
-               "fit with another evidence figure or another limit";
     case SAFETEAL_REFUSED_RECORD:
         return "a record of the parcel is cut short: fewer than 6 bytes are left for its length and kind, or fewer "
                "than its length for its payload";
@@ -253,8 +248,9 @@ uint64_t safeteal_stats(
        strict      a closer fit is asked for, and a plain one is taken only where a neighbour has a close one at the
                    pixel. Begin with false.
 
-   Writes all of luma, chroma1 and chroma2: the layer, its distances included. models, kept and cover are work slices:
-   after acceptance and after 8 what they hold means nothing. Exact lengths:
+   Writes all of luma, chroma1 and chroma2: the layer, its distances included. Chroma totals are held as they are in
+   safeteal_assemble, so that no colour cast is too heavy. models, kept and cover are work slices: after acceptance, and
+   after it alone, what they hold means nothing. Exact lengths:
 
        luma                  2 * width * height
        chroma1, chroma2      2 * (width / ratio) * (height / ratio) each
@@ -280,7 +276,8 @@ uint64_t safeteal_fit(
    a byte for each 8 by 8 cell, row after row, and is stored as it is: to make distances of marks, call
    safeteal_distances first, with a width of (width + 7) / 8. Any floats are accepted: NaN is stored as 0, and what does
    not fit as 32767 or -32767. A chroma pixel's offset is the total over its luma pixels of offset / (ratio * ratio),
-   each stored so by itself; a total outside -32768 to 32767 is refused with 8.
+   each stored so by itself; it is summed whole and then held to -32768 to 32767, so that a heavy colour cast is stored
+   as near as 16 bits allow.
 
    Writes all of luma, chroma1 and chroma2. The lengths of all five slices are exactly those of safeteal_fit. */
 uint64_t safeteal_assemble(

@@ -22,14 +22,19 @@ static void check(bool right, const char *what, int line) {
 #define REFUSED(name, call) check(safeteal_number(call) == SAFETEAL_REFUSED_##name, #name ": " #call, __LINE__)
 #define NOTHING NULL, 0
 
+static const char *words(int number) {
+    return safeteal_refusal_words((enum safeteal_refusal)number);
+}
+
+/* Each number has words of its own; 8, which no call gives, has those of a number beyond the last. */
 static void answers(void) {
     CHECK(safeteal_number(3 * 256 + 7) == SAFETEAL_REFUSED_PAIRS && safeteal_count(3 * 256 + 7) == 3);
     CHECK(safeteal_count(UINT64_MAX) == UINT64_MAX >> 8);
-    for (int a = SAFETEAL_ACCEPTED; a <= SAFETEAL_REFUSED_PAYLOAD + 1; a++) {
+    for (int a = SAFETEAL_ACCEPTED; a <= SAFETEAL_REFUSED_PAYLOAD; a++) {
         for (int b = SAFETEAL_ACCEPTED; b < a; b++) {
-            const char *words = safeteal_refusal_words((enum safeteal_refusal)a);
-            CHECK(strcmp(words, safeteal_refusal_words((enum safeteal_refusal)b)) != 0);
+            CHECK(strcmp(words(a), words(b)) != 0);
         }
+        CHECK((strcmp(words(a), words(SAFETEAL_REFUSED_PAYLOAD + 1)) == 0) == (a == 8));
     }
 }
 
@@ -45,7 +50,7 @@ static uint64_t stats_of(float sums[6], float chroma1[2], float chroma2[2], size
 }
 
 static void each_refusal(void) {
-    uint8_t byte = 1, cover = 0;
+    uint8_t byte = 1;
     const uint8_t other = 2;
     float sums[6], chroma1[2], chroma2[2];
     REFUSED(SIZE, safeteal_distances(&byte, 1, 0));
@@ -63,12 +68,6 @@ static void each_refusal(void) {
     REFUSED(SETTING, safeteal_apply(&byte, 1, 1, &other, 1, &other, 1, 1, 1, 1, &other, 1, 1, NAN));
     REFUSED(PAIRS, stats_of(sums, chroma1, chroma2, 12, 1));
     CHECK(byte == 1 && sums[0] == 0 && chroma1[0] == 0 && chroma2[0] == 0);
-
-    /* Four offsets of 4096 make a total of 65536 64ths. */
-    const float models[16] = {1, 0, 4096, 0, 1, 0, 4096, 0, 1, 0, 4096, 0, 1, 0, 4096, 0};
-    int16_t luma[8] = {7}, one[2] = {7}, two[2] = {7};
-    uint64_t answer = safeteal_assemble(2, 2, 2, models, 16, &cover, 1, luma, 8, one, 2, two, 2);
-    CHECK(answer == SAFETEAL_REFUSED_CHROMA_TOTAL && luma[0] == 7 && one[0] == 7 && two[0] == 7);
 }
 
 /* Where all slices are NULL with 0, each call comes back, with 4; a mask without cells is 2, a parcel of no bytes 10,
@@ -223,6 +222,28 @@ static void present_neighbours(void) {
         NOTHING, NOTHING, NOTHING, 0, own.luma, 6, own.chroma1, 2, own.chroma2, 2, 0, NOTHING, NOTHING, NOTHING, 0,
         1, 1, 6, 24, false, 1, models, 4, &kept, 1, &cover, 1, stored.luma, 2, stored.chroma1, 2, stored.chroma2, 2));
     CHECK(models[0] == 3 && kept == 3 && cover == 3 && stored.luma[0] == 0);
+}
+
+/* ---- assemble ---- */
+
+/* The number that is stored at the one chroma pixel of 2 by 2 luma pixels with these offsets, in both planes. */
+static int16_t total(float a, float b, float c, float d) {
+    const float models[16] = {1, 0, a, d, 1, 0, b, c, 1, 0, c, b, 1, 0, d, a};
+    const uint8_t cover = 3;
+    int16_t luma[8] = {0}, chroma1[2] = {0}, chroma2[2] = {0};
+    CHECK(safeteal_assemble(2, 2, 2, models, 16, &cover, 1, luma, 8, chroma1, 2, chroma2, 2) == 0);
+    CHECK(luma[3] == 4096 && luma[4] == 0 && chroma1[0] == chroma2[0] && chroma1[1] == 0 && chroma2[1] == 3);
+    return chroma1[0];
+}
+
+/* A luma pixel adds 16 for an offset of 1, and 32767 at most. */
+static void totals(void) {
+    CHECK(total(512, 512, 512, 511.875f) == 32766 && total(-512, -512, -512, -511.9375f) == -32767);
+    CHECK(total(512, 512, 512, 511.9375f) == 32767 && total(-512, -512, -512, -512) == -32768);
+    CHECK(total(512, 512, 512, 512) == 32767 && total(-512, -512, -512, -512.0625f) == -32768);
+    CHECK(total(4096, 4096, 4096, 4096) == 32767 && total(-4096, -4096, -4096, -4096) == -32768);
+    CHECK(total(1200, 1200, -1200, -1200) == 0 && total(-1200, -1200, 1200, 1200) == 0);
+    CHECK(total(4096, 4096, -1200, -1200) == 27134 && total(-4096, -4096, 1200, 1200) == -27134);
 }
 
 /* ---- what is written and what is left alone ---- */
@@ -508,6 +529,7 @@ int main(void) {
     nothing_lent();
     absent_neighbours();
     present_neighbours();
+    totals();
     stats();
     lengths();
     peel();

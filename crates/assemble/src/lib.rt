@@ -2,12 +2,9 @@
 use assemble_offsets::Sizes;
 use rules::Answer;
 ghost use mathlib.Core.Path.{_≡_};
-ghost use mathlib.Core.Bool.{true};
-ghost use Rattle.rules.specs.Refusals.{firstFitting, assembleTable};
-ghost use Rattle.assemble_offsets.specs.Sizes.{Formed, modelsLong};
-ghost use Rattle.assemble_store.specs.Entries.{coverLong, Room};
+ghost use Rattle.rules.specs.Refusals.{assembleRefusal};
 ghost use Rattle.calls.specs.Lent.{fitOf, assembleCall};
-ghost use Rattle.assemble.specs.Call.{sizesOf, Assembled, AssembleAnswered};
+ghost use Rattle.assemble.specs.Call.{sizesOf, AssembleAnswered};
 
 // Chroma's width and height with luma's.
 pub fn sizes_of(width: usize, height: usize, ratio: usize) -> Sizes
@@ -22,7 +19,7 @@ pub fn sizes_of(width: usize, height: usize, ratio: usize) -> Sizes
     }
 }
 
-// The number of the refusal, or 0, before the totals are looked at.
+// The number of the refusal, or 0.
 fn refusal(
     luma: &[i16],
     chroma1: &[i16],
@@ -34,8 +31,8 @@ fn refusal(
     cover: &[u8],
 ) -> u8
     ensures { λ r. ⌜
-        r ≡ firstFitting (assembleTable
-        (assembleCall width height ratio (now (models .entry)) (now (cover .entry)) (fitOf (now (luma .entry)) (now (chroma1 .entry)) (now (chroma2 .entry)))) true) ⌝ }
+        r ≡ assembleRefusal
+        (assembleCall width height ratio (now (models .entry)) (now (cover .entry)) (fitOf (now (luma .entry)) (now (chroma1 .entry)) (now (chroma2 .entry)))) ⌝ }
 {
     let first = plane::sizes(width, height);
     let second = plane::ratioed(ratio, width, height);
@@ -50,41 +47,12 @@ fn refusal(
         height,
         ratio,
     );
-    plane::unless(
-        1,
-        first,
-        plane::unless(
-            2,
-            second,
-            plane::unless(
-                4,
-                third,
-                plane::unless(4, fourth, plane::unless(4, fifth, 0)),
-            ),
-        ),
-    )
-}
-
-// Stores the layer, unless a total does not fit: 8, or 0.
-pub fn assembled(
-    luma: &mut [i16],
-    chroma1: &mut [i16],
-    chroma2: &mut [i16],
-    sizes: Sizes,
-    models: &[f32],
-    cover: &[u8],
-) -> u8
-    requires { ⌜ Formed sizes × modelsLong (now models) sizes × coverLong (now cover) sizes × Room (now luma) (now chroma1) (now chroma2) sizes ⌝ }
-    ensures { λ r. ⌜
-        Assembled sizes (now (models .entry)) (now (cover .entry))
-        (now (luma .entry)) (now (chroma1 .entry)) (now (chroma2 .entry))
-        (now (luma .exit)) (now (chroma1 .exit)) (now (chroma2 .exit)) r ⌝ }
-{
-    if assemble_offsets::totals_fit(sizes, models) {
-        assemble_store::store(luma, chroma1, chroma2, sizes, models, cover);
-        return 0;
-    }
-    8
+    let lengths = plane::unless(
+        4,
+        third,
+        plane::unless(4, fourth, plane::unless(4, fifth, 0)),
+    );
+    plane::unless(1, first, plane::unless(2, second, lengths))
 }
 
 // Assembles, or refuses: the contract is the equation for both.
@@ -108,6 +76,9 @@ pub fn assemble(
         return Answer { number, count: 0 };
     }
     let sizes = sizes_of(width, height, ratio);
-    let number = assembled(luma, chroma1, chroma2, sizes, models, cover);
-    Answer { number, count: 0 }
+    assemble_store::store(luma, chroma1, chroma2, sizes, models, cover);
+    Answer {
+        number: 0,
+        count: 0,
+    }
 }

@@ -14,14 +14,19 @@ use mir.ValLaws.{toZ-ofZ}
 use Rattle.rules.specs.Forms.{turns}
 use Rattle.rules.specs.Literals.{64·0}
 use Rattle.rules.specs.Float.{_⊘_, stored}
-use Rattle.laws.proofs.Points.{stored-small}
+use Rattle.rules.specs.Assembly.{storedTotal}
+use Rattle.laws.proofs.Points.{stored-small, total-small}
 use Rattle.laws.proofs.Signed.{back, fits, again, sum-size}
 use Rattle.assemble_offsets.specs.Sizes.{termOf, rowTotal}
 
 pub stored-back : (value scale : Float) → toZ w16 (ofZ w16 (stored value scale)) ≡ stored value scale
 stored-back value scale = again w16 (stored value scale) (omega (arith, stored-small value scale))
 
--- and so is a sum of some of them
+pub total-back : (total : ℤ) → toZ w16 (ofZ w16 (storedTotal total .0)) ≡ storedTotal total .0
+total-back total = back w16 (storedTotal total .0) (total-small total)
+
+-- ---- a sum of some stored offsets
+
 pub term-size : (models : List Float) (plane : ℕ) (share : Float) (at : ℕ) → natAbs (termOf models plane share at) ≤ 32767
 unfolding termOf
 term-size models plane share at = stored-small (getD models (at * 4 + (1 + plane)) nan ⊘ share) 64·0

@@ -1,24 +1,21 @@
 -- The totals as they are summed are the rules' totals. Assumes nothing.
 use mathlib.Core.Path.{_≡_, ap}
 use mathlib.Core.Logic.{_⊎_, inl, inr}
-use mathlib.Core.Bool.{_&&_}
 use mathlib.Core.List.{List}
 use Prim.Native.Nat.{ℕ, zero, suc, _+_, _-_, _*_, _≤_, _<_}
-use native.Mathlib.Nat.{add-assoc, suc-mul, mul-le-mul, mul-comm, eq-or-lt-of-le}
-use native.Mathlib.Numerals.{add-one}
+use native.Mathlib.Nat.{add-assoc, suc-mul, mul-le-mul, eq-or-lt-of-le}
 use native.Mathlib.Omega.{arith}
 use lib.Arith.{digits-div, digits-mod}
 use lib.IntN.{ℤ, pos, natAbs, _+ℤ_}
 use lib.ListN.{getD}
 use lib.Ieee.{Float, nan}
-use Rattle.rules.specs.Forms.{turns, all, scanRow, scan}
+use Rattle.rules.specs.Forms.{turns, scanRow, scan}
 use Rattle.rules.specs.Float.{_⊘_, float}
-use Rattle.rules.specs.Model.{Fitted}
-use Rattle.rules.specs.Assembly.{storedOffset, offsetOf, modelSlice, chromaTotal, totalsFit}
+use Rattle.rules.specs.Assembly.{storedOffset, offsetOf, modelSlice, chromaTotal}
 use Rattle.table.proofs.Turns.{turns-same}
 use Rattle.table.proofs.Models.{model-at}
 use Rattle.assemble_offsets.specs.declared.Sizes.{Sizes}
-use Rattle.assemble_offsets.specs.Sizes.{Formed, modelsLong, Block, RowFits, termOf, rowTotal, blockTotal, pointFits, fitsBelow}
+use Rattle.assemble_offsets.specs.Sizes.{Formed, modelsLong, Block, RowFits, termOf, rowTotal, blockTotal}
 use Rattle.assemble_offsets.proofs.Signed.{row-size}
 use Rattle.assemble_offsets.proofs.Places.{luma-place}
 
@@ -76,15 +73,3 @@ module _ (sizes : Sizes) (f : Formed sizes) (s : List Float) (long : modelsLong 
         small = r .1;
         few = rw e (omega arith);
       }
-
--- ---- whether all of them fit
-
--- an entry more
-pub fits-more : (models : List Fitted) (width ratio n m : ℕ) → fitsBelow models width ratio (n + m) && pointFits models width ratio (n + m) ≡ fitsBelow models width ratio (n + (m + 1))
-unfolding turns all fitsBelow
-fits-more models width ratio n m = rw (← add-assoc n m 1, add-one)
-
-pub fits-all : (sizes : Sizes) (f : Formed sizes) (models : List Fitted)
-    → fitsBelow models (sizes .width) (sizes .ratio) (sizes .«chroma_height» * sizes .«chroma_width») ≡ totalsFit models (sizes .width, sizes .height) (sizes .ratio)
-unfolding totalsFit fitsBelow
-fits-all sizes f models = rw (← f .across-is, ← f .down-is, mul-comm (sizes .«chroma_width») (sizes .«chroma_height»))

@@ -1,16 +1,14 @@
 -- What the passes over a model slice ask, and the totals as they are summed.
 use mathlib.Core.Path.{_≡_}
-use mathlib.Core.Bool.{Bool, _&&_}
 use mathlib.Core.List.{List}
 use Prim.Native.Nat.{ℕ, _+_, _*_, _/_, _≤_, _<_}
-use lib.IntN.{ℤ, pos, negℤ, natAbs, _+ℤ_}
+use lib.IntN.{ℤ, pos, natAbs, _+ℤ_}
 use lib.ListN.{length, getD}
 use lib.Ieee.{Float, nan}
-use Rattle.rules.specs.Forms.{turns, all}
+use Rattle.rules.specs.Forms.{turns}
 use Rattle.rules.specs.Float.{_⊘_}
-use Rattle.rules.specs.Domain.{modelsLength, spans}
-use Rattle.rules.specs.Model.{Fitted}
-use Rattle.rules.specs.Assembly.{storedOffset, chromaTotal}
+use Rattle.rules.specs.Domain.{modelsLength}
+use Rattle.rules.specs.Assembly.{storedOffset}
 use Rattle.assemble_offsets.specs.declared.Sizes.{Sizes}
 
 -- sizes and a ratio that are not refused
@@ -54,13 +52,3 @@ pub record Block (sizes : Sizes) (plane x y : ℕ) : Type 0 where
 unfoldable pub blockTotal : List Float → (plane : ℕ) → (share : Float) → (width ratio x y n : ℕ) → ℤ
 blockTotal models plane share width ratio x y n =
     turns (λ dy. rowTotal models plane share ((y * ratio + dy) * width + x * ratio) ratio) n (pos 0)
-
--- whether both totals of chroma entry k fit
-abbrev pub pointFits : List Fitted → (width ratio k : ℕ) → Bool
-pointFits models width ratio k =
-    let inRange = spans (negℤ (pos 32768)) (pos 32767) in
-    inRange (chromaTotal models width ratio 1 k) && inRange (chromaTotal models width ratio 2 k)
-
--- whether those of the first n entries do
-unfoldable pub fitsBelow : List Fitted → (width ratio n : ℕ) → Bool
-fitsBelow models width ratio n = all n (pointFits models width ratio)

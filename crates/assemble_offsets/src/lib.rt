@@ -1,12 +1,10 @@
-// The totals of chroma offsets: each summed whole, and whether all of them fit.
+// The totals of chroma offsets: each summed whole, and held once.
 use rules::Offset;
 ghost use mathlib.Core.Path.{_≡_};
 ghost use Prim.Native.Nat.{_+_, _*_, _<_};
-ghost use lib.IntN.{pos, negℤ};
 ghost use lib.ListN.{length};
-ghost use Rattle.rules.specs.Domain.{spans};
-ghost use Rattle.rules.specs.Assembly.{storedOffset, modelSlice, chromaTotal, totalsFit};
-ghost use Rattle.assemble_offsets.specs.Sizes.{Formed, modelsLong, termOf, rowTotal, RowFits, Block, pointFits, fitsBelow};
+ghost use Rattle.rules.specs.Assembly.{storedOffset, storedTotal, modelSlice, chromaTotal};
+ghost use Rattle.assemble_offsets.specs.Sizes.{Formed, modelsLong, termOf, rowTotal, RowFits, Block};
 
 // Luma's width and height, the ratio, and chroma's width and height.
 pub struct Sizes {
@@ -55,7 +53,7 @@ fn total_row(
 }
 
 // The total of a chroma pixel of plane 1 or 2, summed whole.
-pub fn chroma_total(sizes: Sizes, models: &[f32], plane: usize, x: usize, y: usize) -> i32
+fn chroma_total(sizes: Sizes, models: &[f32], plane: usize, x: usize, y: usize) -> i32
     requires { ⌜ Formed sizes × modelsLong (now models) sizes × Block sizes plane x y ⌝ }
     ensures { λ r. ⌜ r ≡ chromaTotal (modelSlice (now (models .entry)) (sizes .width * sizes .height)) (sizes .width) (sizes .ratio) plane (y * sizes .«chroma_width» + x) ⌝ }
 {
@@ -75,52 +73,24 @@ pub fn chroma_total(sizes: Sizes, models: &[f32], plane: usize, x: usize, y: usi
     sum
 }
 
-// Whether a total is a number that a layer stores.
-fn in_range(total: i32) -> bool
-    ensures { λ r. ⌜ r ≡ spans (negℤ (pos 32768)) (pos 32767) total ⌝ }
+// A total as it is stored: held to what an offset holds.
+fn held(total: i32) -> Offset
+    ensures { λ r. ⌜ r ≡ storedTotal total ⌝ }
 {
-    plane::both(-32768 <= total, total <= 32767)
-}
-
-// Whether both totals of a chroma pixel are.
-fn point_fits(sizes: Sizes, models: &[f32], x: usize, y: usize) -> bool
-    requires { ⌜ Formed sizes × modelsLong (now models) sizes × (x < sizes .«chroma_width») × (y < sizes .«chroma_height») ⌝ }
-    ensures { λ r. ⌜ r ≡ pointFits (modelSlice (now (models .entry)) (sizes .width * sizes .height)) (sizes .width) (sizes .ratio) (y * sizes .«chroma_width» + x) ⌝ }
-{
-    plane::both(
-        in_range(chroma_total(sizes, models, 1, x, y)),
-        in_range(chroma_total(sizes, models, 2, x, y)),
-    )
-}
-
-// Whether all of a row, and `before`, are.
-fn row_fits(sizes: Sizes, models: &[f32], y: usize, before: bool) -> bool
-    requires { ⌜
-        Formed sizes × modelsLong (now models) sizes × (y < sizes .«chroma_height»)
-        × (before ≡ fitsBelow (modelSlice (now models) (sizes .width * sizes .height)) (sizes .width) (sizes .ratio) (y * sizes .«chroma_width»)) ⌝ }
-    ensures { λ r. ⌜ r ≡ fitsBelow (modelSlice (now (models .entry)) (sizes .width * sizes .height)) (sizes .width) (sizes .ratio) (y * sizes .«chroma_width» + sizes .«chroma_width») ⌝ }
-{
-    let across = sizes.chroma_width;
-    let mut fits = before;
-    let mut x = 0;
-    while x < across {
-        fits = plane::both(fits, point_fits(sizes, models, x, y));
-        x += 1;
+    if total < -32768 {
+        return Offset(-32768);
     }
-    fits
+    if 32767 < total {
+        return Offset(32767);
+    }
+    Offset(total as i16)
 }
 
-// Whether every total of both planes is.
-pub fn totals_fit(sizes: Sizes, models: &[f32]) -> bool
-    requires { ⌜ Formed sizes × modelsLong (now models) sizes ⌝ }
-    ensures { λ r. ⌜ r ≡ totalsFit (modelSlice (now (models .entry)) (sizes .width * sizes .height)) (sizes .width, sizes .height) (sizes .ratio) ⌝ }
+// The offset that is stored of a chroma pixel of plane 1 or 2.
+pub fn stored_total(sizes: Sizes, models: &[f32], plane: usize, x: usize, y: usize) -> Offset
+    requires { ⌜ Formed sizes × modelsLong (now models) sizes × Block sizes plane x y ⌝ }
+    ensures { λ r. ⌜
+        r ≡ storedTotal (chromaTotal (modelSlice (now (models .entry)) (sizes .width * sizes .height)) (sizes .width) (sizes .ratio) plane (y * sizes .«chroma_width» + x)) ⌝ }
 {
-    let rows = sizes.chroma_height;
-    let mut fits = true;
-    let mut y = 0;
-    while y < rows {
-        fits = row_fits(sizes, models, y, fits);
-        y += 1;
-    }
-    fits
+    held(chroma_total(sizes, models, plane, x, y))
 }

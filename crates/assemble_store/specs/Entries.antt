@@ -1,6 +1,6 @@
 -- The entries of the three slices of a layer, and what storing them asks.
 use mathlib.Core.Path.{_≡_}
-use mathlib.Core.Bool.{true, cond}
+use mathlib.Core.Bool.{cond}
 use mathlib.Core.List.{List}
 use Prim.Native.Nat.{ℕ, _+_, _-_, _*_, _≤_, _<_}
 use lib.Dec.{ltb, eqb}
@@ -10,7 +10,7 @@ use lib.Ieee.{Float}
 use Rattle.rules.specs.Forms.{Fit}
 use Rattle.rules.specs.Domain.{fitLength, coverLength}
 use Rattle.rules.specs.Model.{Fitted}
-use Rattle.rules.specs.Assembly.{modelSlice, chromaTotal, totalsFit, cellEntry, lumaEntry}
+use Rattle.rules.specs.Assembly.{modelSlice, chromaTotal, storedTotal, cellEntry, lumaEntry}
 use Rattle.assemble_offsets.specs.declared.Sizes.{Sizes}
 use Rattle.assemble_offsets.specs.Sizes.{Formed, modelsLong}
 use Rattle.table.specs.Filled.{Paired}
@@ -37,7 +37,7 @@ points sizes = sizes .«chroma_width» * sizes .«chroma_height»
 unfoldable pub chromaEntry : List Fitted → (cover : List ℕ) → Sizes → (plane i : ℕ) → ℤ
 chromaEntry models cover sizes plane i =
     cond (ltb i (points sizes))
-    (chromaTotal models (sizes .width) (sizes .ratio) plane i)
+    (storedTotal (chromaTotal models (sizes .width) (sizes .ratio) plane i) .0)
     (tailEntry cover (sizes .width, sizes .height) (sizes .«chroma_width») plane (i - points sizes))
 
 -- ---- what is asked
@@ -74,7 +74,6 @@ pub record Source (sizes : Sizes) (models : List Float) (cover : List ℕ) : Typ
   pub formed : Formed sizes
   pub models-long : modelsLong models sizes
   pub cover-long : coverLong cover sizes
-  pub fits : totalsFit (modelsOf models sizes) (sizes .width, sizes .height) (sizes .ratio) ≡ true
 
 -- nor are the slices that are written
 pub record Room (luma first second : List ℤ) (sizes : Sizes) : Type 0 where

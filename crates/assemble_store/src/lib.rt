@@ -1,7 +1,6 @@
 // The numbers of a layer, stored pixel by pixel.
 use assemble_offsets::Sizes;
 use rules::Gain;
-use rules::Offset;
 ghost use mathlib.Core.Path.{_≡_};
 ghost use mathlib.Core.Bool.{cond, _&&_};
 ghost use Prim.Native.Nat.{_+_, _*_, _<_, _≤_};
@@ -69,7 +68,7 @@ fn tail(sizes: Sizes, cover: &[u8], plane: usize, x: usize, y: usize) -> i16
     cell(cover, across, down, x, y) as i16
 }
 
-// The total, an offset, and the cell of a chroma pixel of plane 1 or 2.
+// The offset and the cell of a chroma pixel of plane 1 or 2.
 fn put_chroma(
     chroma: &mut [i16],
     sizes: Sizes,
@@ -86,8 +85,7 @@ fn put_chroma(
 {
     let points = plane::place(sizes.chroma_width, sizes.chroma_height, 0);
     let k = plane::place(y, sizes.chroma_width, x);
-    let total = assemble_offsets::chroma_total(sizes, models, plane, x, y) as i16;
-    let offset = Offset(total);
+    let offset = assemble_offsets::stored_total(sizes, models, plane, x, y);
     let cell = tail(sizes, cover, plane, x, y);
     table::put_pair(chroma, points, k, offset.0, cell);
 }

@@ -21,9 +21,9 @@ use Rattle.rules.specs.Forms.{Plane, Layer, Rule, planeSize, painted, counted, 
 use Rattle.rules.specs.Literals.{0·0, 0·2}
 use Rattle.rules.specs.Float.{_≼_, float, abs, pixel}
 use Rattle.rules.specs.Calls.{FitCall}
-use Rattle.rules.specs.Refusals.{peelRefusal, unpeelRefusal, renderRefusal}
+use Rattle.rules.specs.Refusals.{peelRefusal, unpeelRefusal, renderRefusal, fitRefusal}
 use Rattle.rules.specs.Model.{Fitted, unfitted}
-use Rattle.rules.specs.Fit.{fitModels, fitCover, fitRefusal, fitLeaves}
+use Rattle.rules.specs.Fit.{fitModels, fitCover, fitLeaves}
 use Rattle.rules.specs.Reading.{cell, gap, lumaGain, lumaTexel, texel, at, sample}
 use Rattle.rules.specs.Scene.{value, lift, lifted, under, filled, scene}
 use Rattle.rules.specs.Peel.{layered, peelRule}

@@ -12,7 +12,8 @@ use Rattle.rules.specs.declared.Offset.{Offset}
 use Rattle.rules.specs.Forms.{Plane, Motion, Layer, Frames, Rule, cells, planeSize}
 use Rattle.rules.specs.Float.{_≼_}
 use Rattle.rules.specs.Calls.{FitCall}
-use Rattle.rules.specs.Fit.{fitRefusal, fitLeaves}
+use Rattle.rules.specs.Refusals.{fitRefusal}
+use Rattle.rules.specs.Fit.{fitLeaves}
 use Rattle.rules.specs.Reading.{asLeft, cell, lumaGain, lumaOffset, byte}
 use Rattle.rules.specs.Peel.{peelRule, peelAnswer, peelLeaves}
 use Rattle.rules.specs.Unpeel.{unpeelRule, unpeelAnswer, unpeelLeaves}

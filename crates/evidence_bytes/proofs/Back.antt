@@ -1,30 +1,32 @@
 -- Numbers written as bytes are read back, and what fit leaves is such numbers. Assumes nothing.
 use mathlib.Core.Path.{_≡_, refl, sym, subst₂}
-use mathlib.Core.Bool.{Bool, true, false, not, cond, _&&_}
+use mathlib.Core.Bool.{Bool, true, false, cond, _&&_}
 use mathlib.Core.List.{List}
-use Prim.Native.Nat.{ℕ, zero, suc, _+_, _-_, _*_, _/_, _%_, _≤_, _<_}
+use Prim.Native.Nat.{ℕ, _+_, _-_, _*_, _/_, _%_, _≤_, _<_}
 use native.Mathlib.Omega.{arith}
-use borrow.Author.Tests.{ltb-true, le-leb}
-use lib.Dec.{T, ltb, ltb→lt, nltb→le}
-use lib.IntN.{ℤ, pos, negsuc, natAbs}
+use borrow.Author.Tests.{le-leb}
+use lib.Dec.{ltb}
+use lib.IntN.{ℤ, pos, negsuc}
+use lib.Signed.{mag}
 use lib.ListN.{getD}
 use lib.Ieee.{Float}
+use mir.Syntax.{w16}
 use Rattle.rules.specs.Literals.{64·0, 4096·0}
 use Rattle.rules.specs.Float.{stored}
-use Rattle.rules.specs.Forms.{Fit, turns, tabulate, all, each, area, shrunk, cells}
+use Rattle.rules.specs.Forms.{Fit, tabulate, each, area, shrunk, cells}
 use Rattle.rules.specs.Calls.{FitCall}
 use Rattle.rules.specs.Host.{numbers}
-use Rattle.rules.specs.Refusals.{fitTable}
+use Rattle.rules.specs.Refusals.{fitRefusal}
 use Rattle.rules.specs.Model.{Fitted}
 use Rattle.rules.specs.Keeping.{modelOf}
-use Rattle.rules.specs.Assembly.{lumaEntry, chromaTotal, totalsFit, cellEntry, assembled}
+use Rattle.rules.specs.Assembly.{lumaEntry, chromaTotal, storedTotal, cellEntry, assembled}
 use Rattle.rules.specs.Reading.{asLeft}
-use Rattle.rules.specs.Fit.{fitModels, fitCover, fitRefusal, fitLeaves}
+use Rattle.rules.specs.Fit.{fitModels, fitCover, fitLeaves}
 use Rattle.laws.proofs.Lists.{each-table}
 use Rattle.rules.specs.Parcel.{inBytes, isShort, written}
-use Rattle.laws.proofs.Accepted.{both, row-right}
 use Rattle.laws.proofs.Bytes.{read-back as bytes-back}
-use Rattle.laws.proofs.Points.{stored-small}
+use Rattle.laws.proofs.Points.{stored-small, total-small}
+use Rattle.laws.proofs.Signed.{fits}
 use Rattle.evidence.specs.Evidence.{Keeps}
 use Rattle.evidence.proofs.Growth.{cover-fits}
 use Rattle.evidence.proofs.Theorem.{demand-three}
@@ -35,18 +37,8 @@ read-back = bytes-back
 
 -- ---- what fit leaves
 
-all-at : (test : ℕ → Bool) (n : ℕ) → all n test ≡ true → (k : ℕ) → k < n → test k ≡ true
-unfolding all turns
-all-at test zero e k h = absurd (omega arith)
-all-at test (suc n) e k h =
-    let t = both (all n test) (test n) e in go (λ below. all-at test n (t .0) k below) (t .1) (ltb k n) (ltb→lt k n) (nltb→le k n)
-  where
-    go : (k < n → test k ≡ true) → test n ≡ true → (b : Bool) → (T b → k < n) → (T (not b) → n ≤ k) → test k ≡ true
-    go before last true below past = before (below tt)
-    go before last false below past = let p = past tt in let same : k ≡ n = omega arith in rw same last
-
-small-short : (z : ℤ) → natAbs z ≤ 32767 → isShort z ≡ true
-small-short (pos n) h = le-leb n 32767 h
+small-short : (z : ℤ) → mag z < 32768 → isShort z ≡ true
+small-short (pos n) h = le-leb n 32767 (omega arith)
 small-short (negsuc n) h = rw (le-leb n 32767 (omega arith))
 
 either-short : (b : Bool) (y z : ℤ) → (b ≡ true → isShort y ≡ true) → isShort z ≡ true → isShort (cond b y z) ≡ true
@@ -59,7 +51,7 @@ luma-short m pixels i =
     either-short (ltb i pixels) _ _ (λ e. stored-short (modelOf m i .gain) 4096·0) (stored-short (modelOf m (i - pixels) .offset) 64·0)
   where
     stored-short : (value scale : Float) → isShort (stored value scale) ≡ true
-    stored-short value scale = small-short (stored value scale) (stored-small value scale)
+    stored-short value scale = small-short (stored value scale) (fits w16 (stored value scale) (omega (arith, stored-small value scale)) .sfits)
 
 cell-short : (v : List ℕ) (size : ℕ × ℕ) (width j : ℕ) → ((k : ℕ) → getD v k 0 ≤ 255) → isShort (cellEntry v size width j) ≡ true
 unfolding cellEntry
@@ -70,16 +62,16 @@ cell-short v size width j small =
     go true n h = le-leb n 32767 (omega arith)
     go false n h = refl
 
-module _ (m : List Fitted) (v : List ℕ) (size : ℕ × ℕ) (ratio : ℕ) (totals : totalsFit m size ratio ≡ true) (small : (k : ℕ) → getD v k 0 ≤ 255) where
+module _ (m : List Fitted) (v : List ℕ) (size : ℕ × ℕ) (ratio : ℕ) (small : (k : ℕ) → getD v k 0 ≤ 255) where
   pixels : ℕ
   pixels = area (shrunk size ratio)
 
   total : (plane i : ℕ) → ℤ
-  total plane i = chromaTotal m (size .0) ratio plane i
+  total plane i = storedTotal (chromaTotal m (size .0) ratio plane i) .0
 
-  total-short : (k : ℕ) → k < pixels → (isShort (total 1 k) ≡ true) × (isShort (total 2 k) ≡ true)
-  unfolding totalsFit pixels total
-  total-short k h = both (isShort (total 1 k)) (isShort (total 2 k)) (all-at (λ i. isShort (total 1 i) && isShort (total 2 i)) pixels totals k h)
+  total-short : (plane k : ℕ) → isShort (total plane k) ≡ true
+  unfolding total
+  total-short plane k = small-short (total plane k) (total-small (chromaTotal m (size .0) ratio plane k))
 
   through : throughBytes (assembled m v size ratio) ≡ assembled m v size ratio
   unfolding assembled pixels total
@@ -87,19 +79,15 @@ module _ (m : List Fitted) (v : List ℕ) (size : ℕ × ℕ) (ratio : ℕ) (tot
       let luma = each-table isShort (2 * area size) (lumaEntry m (area size)) (λ k h. luma-short m (area size) k) in
       let first =
       each-table isShort (2 * pixels) (λ i. cond (ltb i pixels) (total 1 i) (pos 0))
-      (λ k h. either-short (ltb k pixels) _ _ (λ e. total-short k (ltb-true k pixels e) .0) refl) in
+      (λ k h. either-short (ltb k pixels) _ _ (λ e. total-short 1 k) refl) in
       let second =
       each-table isShort (2 * pixels) (λ i. cond (ltb i pixels) (total 2 i) (cellEntry v size (size .0 / ratio) (i - pixels)))
-      (λ k h. either-short (ltb k pixels) _ _ (λ e. total-short k (ltb-true k pixels e) .1) (cell-short v size (size .0 / ratio) (k - pixels) small)) in
+      (λ k h. either-short (ltb k pixels) _ _ (λ e. total-short 2 k) (cell-short v size (size .0 / ratio) (k - pixels) small)) in
       rw (read-back _ luma, read-back _ first, read-back _ second)
-
-totals-fit : (c : FitCall) → fitRefusal c ≡ 0 → totalsFit (fitModels c) (c .size) (c .ratio) ≡ true
-unfolding fitRefusal fitTable
-totals-fit c e = row-right (fitTable c (totalsFit (fitModels c) (c .size) (c .ratio))) refl e 14 _ refl
 
 pub left-short : LeftShort
 unfolding fitLeaves
-left-short c e = rw e (through (fitModels c) (fitCover c) (c .size) (c .ratio) (totals-fit c e) (cover-fits c))
+left-short c e = rw e (through (fitModels c) (fitCover c) (c .size) (c .ratio) (cover-fits c))
 
 pub demand-three-bytes : DemandThreeBytes
 demand-three-bytes first second t ok ok' =

@@ -6,9 +6,10 @@ use mathlib.Core.List.{List, [], _∷_}
 use lib.IntN.{ℤ, pos, negℤ}
 use Rattle.rules.specs.Forms.{Fit, Layer, each}
 use Rattle.rules.specs.Calls.{FitCall}
+use Rattle.rules.specs.Refusals.{fitRefusal}
 use Rattle.rules.specs.Host.{numbers}
 use Rattle.rules.specs.Parcel.{isShort, written}
-use Rattle.rules.specs.Fit.{fitRefusal, fitLeaves}
+use Rattle.rules.specs.Fit.{fitLeaves}
 use Rattle.rules.specs.Reading.{asLeft}
 use Rattle.evidence.specs.Evidence.{FitTwice, Keeps}
 

@@ -1,40 +1,39 @@
 -- Demand 3 of the exported calls, from the theorem of the definitions. Assumes nothing.
-use mathlib.Core.Path.{_≡_, sym, ap, subst, subst₂}
-use mathlib.Core.Bool.{Bool, true, _&&_}
-use mathlib.Core.List.{List, [], _∷_}
+use mathlib.Core.Path.{_≡_, refl, sym, ap, subst, subst₂}
+use mathlib.Core.Bool.{Bool, true}
+use mathlib.Core.List.{List}
 use Prim.Native.Nat.{ℕ, _+_, _*_, _/_, _%_, _≤_}
 use native.Mathlib.Omega.{arith}
-use lib.Dec.{T, leb, leb→le}
-use lib.Ieee.Fits.{and-l, and-r}
-use Rattle.rules.specs.Forms.{Fit, Layer, answer}
+use borrow.Author.Tests.{leb-true}
+use lib.Dec.{leb}
+use Rattle.rules.specs.Forms.{Fit, Layer, each, answer}
 use Rattle.rules.specs.Calls.{FitCall}
-use Rattle.rules.specs.Refusals.{Table, firstFitting, fitTable, peelRefusal, unpeelRefusal, renderRefusal}
-use Rattle.rules.specs.Fit.{fitRefusal, fitLeaves}
+use Rattle.rules.specs.Refusals.{Table, firstFitting, peelRefusal, unpeelRefusal, renderRefusal, fitRefusal}
+use Rattle.rules.specs.Fit.{fitLeaves}
+use Rattle.rules.specs.Host.{numberIn}
 use Rattle.rules.specs.Reading.{asLeft}
-use Rattle.laws.proofs.Lists.{either}
+use Rattle.laws.proofs.Accepted.{number-passes}
 use Rattle.calls.specs.Lent.{planeOf}
 use Rattle.told.specs.Told.{Told}
 use Rattle.evidence.specs.Evidence.{layerLeft, Later, peelLuma, unpeelLuma, renderPlane, run, Keeps}
 use Rattle.evidence.proofs.Theorem.{demand-three}
 use Rattle.evidence_bytes.specs.Written.{throughBytes}
 use Rattle.evidence_bytes.proofs.Back.{left-short}
-use Rattle.evidence_calls.specs.Calls.{FitTold, LaterTold, numberIn, planeLeft, KeepsCall, KeepsLeft, DemandThreeCalls, DemandThreeByteCalls}
+use Rattle.evidence_calls.specs.Calls.{FitTold, LaterTold, planeLeft, KeepsCall, KeepsLeft, DemandThreeCalls, DemandThreeByteCalls}
 
--- ---- an answer, taken apart: a refusal's number is at most 8, so it is the answer's low byte
+-- ---- an answer, taken apart: a refusal's number is a byte, so it is the answer's low byte
 
-small : Table → Bool
-small [] = true
-small (row ∷ rest) = leb (row .0) 8 && small rest
+isByte : ℕ → Bool
+isByte n = leb n 255
 
-few : (t : Table) → T (small t) → firstFitting t ≤ 8
-unfolding firstFitting small
-few [] s = omega arith
-few (row ∷ rest) s = either (row .1) (row .0) (firstFitting rest) 8 (leb→le (row .0) 8 (and-l (leb (row .0) 8) (small rest) s)) (few rest (and-r (leb (row .0) 8) (small rest) s))
+few : (t : Table) → each (λ row. isByte (row .0)) t ≡ true → firstFitting t ≤ 255
+unfolding isByte
+few t e = leb-true _ _ (number-passes isByte t refl e)
 
-low : (k n r : ℕ) → n ≤ 8 → r ≡ k * 256 + n → r % 256 ≡ 0 → n ≡ 0
+low : (k n r : ℕ) → n ≤ 255 → r ≡ k * 256 + n → r % 256 ≡ 0 → n ≡ 0
 low k n r = omega arith
 
-high : (k n r : ℕ) → n ≤ 8 → r ≡ k * 256 + n → r / 256 ≡ k
+high : (k n r : ℕ) → n ≤ 255 → r ≡ k * 256 + n → r / 256 ≡ k
 high k n r = omega arith
 
 -- ---- the later call
@@ -45,11 +44,11 @@ told (peelLuma output raw) l t = t
 told (unpeelLuma output frames) l t = t
 told (renderPlane plane output frames motion algo) l t = t
 
-number-few : (call : Later) (l : Layer) → run call l .answer .number ≤ 8
-unfolding peelRefusal unpeelRefusal renderRefusal small
-number-few (peelLuma output raw) l = few _ tt
-number-few (unpeelLuma output frames) l = few _ tt
-number-few (renderPlane plane output frames motion algo) l = few _ tt
+number-few : (call : Later) (l : Layer) → run call l .answer .number ≤ 255
+unfolding peelRefusal unpeelRefusal renderRefusal each isByte
+number-few (peelLuma output raw) l = few _ refl
+number-few (unpeelLuma output frames) l = few _ refl
+number-few (renderPlane plane output frames motion algo) l = few _ refl
 
 output-is : (call : Later) (l : Layer) {left : List ℕ} → left ≡ run call l .output .bytes → planeLeft call left ≡ run call l .output
 output-is (peelLuma output raw) l e = ap (λ (b : List ℕ). planeOf b (output .pitch)) e
@@ -75,9 +74,9 @@ keeps-left l l' k = record { layers = k; later = later }
 
 -- ---- the fits
 
-refusal-few : (c : FitCall) → fitRefusal c ≤ 8
-unfolding fitRefusal fitTable small
-refusal-few c = few _ tt
+refusal-few : (c : FitCall) → fitRefusal c ≤ 255
+unfolding fitRefusal each isByte
+refusal-few c = few _ refl
 
 accepted : (c : FitCall) (left : Fit) (r : ℕ) → FitTold c left r → numberIn r ≡ 0 → fitRefusal c ≡ 0
 accepted c left r t e = low 0 (fitRefusal c) r (refusal-few c) (t .told) e

@@ -5,11 +5,13 @@
 use mathlib.Core.Path.{_≡_}
 use mathlib.Core.Bool.{true}
 use mathlib.Core.List.{List}
-use Prim.Native.Nat.{ℕ, _/_, _%_, _≤_}
+use Prim.Native.Nat.{ℕ, _≤_}
 use Rattle.rules.specs.Forms.{Plane, Fit, Layer, uncounted}
 use Rattle.rules.specs.Calls.{FitCall}
-use Rattle.rules.specs.Fit.{fitRefusal, fitLeaves}
+use Rattle.rules.specs.Refusals.{fitRefusal}
+use Rattle.rules.specs.Fit.{fitLeaves}
 use Rattle.rules.specs.Reading.{asLeft, byte}
+use Rattle.rules.specs.Host.{countIn, numberIn}
 use Rattle.rules.specs.Peel.{peelAnswer, peelLeaves}
 use Rattle.rules.specs.Unpeel.{unpeelAnswer, unpeelLeaves}
 use Rattle.rules.specs.Render.{renderAnswer, renderLeaves}
@@ -33,13 +35,6 @@ LaterTold (peelLuma output raw) l left r = (let c = peelCall l 0 output raw in T
 LaterTold (unpeelLuma output frames) l left r = (let c = unpeelCall l 0 output frames in Told (unpeelAnswer c) (unpeelLeaves c) left r)
 LaterTold (renderPlane plane output frames motion algo) l left r =
     (let c = renderCall l plane output frames motion algo in Told (renderAnswer c) (renderLeaves c) left r)
-
--- an answer is "count times 256 plus the refusal number"
-abbrev pub countIn : (r : ℕ) → ℕ
-countIn r = r / 256
-
-abbrev pub numberIn : (r : ℕ) → ℕ
-numberIn r = r % 256
 
 -- the plane that a later call wrote, with the bytes that it left
 abbrev pub planeLeft : Later → (left : List ℕ) → Plane

@@ -12,7 +12,7 @@ use Rattle.rules.specs.Forms.{Part, Layer, cells, area, shrunk}
 use Rattle.rules.specs.Literals.{0·0, 1·0, 2·0, 4·0}
 use Rattle.rules.specs.Float.{float}
 use Rattle.rules.specs.Calls.{FitCall, PeelCall}
-use Rattle.rules.specs.Fit.{fitRefusal}
+use Rattle.rules.specs.Refusals.{fitRefusal}
 use Rattle.rules.specs.Reading.{cell}
 use Rattle.rules.specs.Peel.{peelAnswer, peelLeaves}
 use Rattle.calls.specs.Lent.{planeOf, partOf, partsOf, fitOf, fitCall, peelCall}

@@ -4,13 +4,13 @@ use mathlib.Core.Path.{refl}
 use lib.Ieee as Ieee
 use Rattle.rules.specs.Forms.{turns, tabulate, any, all, each, howMany, scanRow, scan, stroke, painted, tally, counted}
 use Rattle.rules.specs.Float.{abs, min, max, clamp, mix, median, rounded, negative, pixel, roundedShort, stored}
-use Rattle.rules.specs.Refusals.{firstFitting, fitTable, assembleTable, distancesRefusal, emptyRefusal, peelRefusal, unpeelRefusal, renderRefusal, applyRefusal, holdRefusal}
+use Rattle.rules.specs.Refusals.{firstFitting, distancesRefusal, emptyRefusal, peelRefusal, unpeelRefusal, renderRefusal, applyRefusal, holdRefusal, assembleRefusal, fitRefusal}
 use Rattle.rules.specs.Model.{spread, line, same, left, trust, blend, model, error, set, isPlain}
 use Rattle.rules.specs.Window.{total, tried, better, best, ownSame, found, pick, window, chromaOffset, fitted}
 use Rattle.rules.specs.Keeping.{near, kept, marks, cover, keptModels}
 use Rattle.rules.specs.Distances.{least, nearestTo, distances}
-use Rattle.rules.specs.Assembly.{lumaEntry, chromaTotal, totalsFit, cellEntry, assembled, modelSlice, assembleRefusal}
-use Rattle.rules.specs.Fit.{rough, fitModels, fitRefusal}
+use Rattle.rules.specs.Assembly.{lumaEntry, chromaTotal, storedTotal, cellEntry, assembled, modelSlice}
+use Rattle.rules.specs.Fit.{rough, fitModels}
 use Rattle.rules.specs.Reading.{distance, gap, gainTotal, lumaTexel, chromaTexel, texel, mixedModel, modelAt, sample}
 use Rattle.rules.specs.Scene.{lifted, under, gathered, point, stepped, ring, meanOr, filled, scene}
 use Rattle.rules.specs.Peel.{layered, peelRule}
@@ -20,7 +20,7 @@ use Rattle.rules.specs.Render.{farthest, far, timed, reach, rendered, moved, ex
 use Rattle.rules.specs.Still.{detail, isSame, sameAt, byteSum, applyRule, weighed, holdRule}
 use Rattle.rules.specs.Host.{numbers}
 use Rattle.figures.specs.P.{TheoremP}
-use Rattle.figures.specs.Others.{RefusedGrids, RefusedSteps, Beyond, AddingHalf, MarkedOnly, SizeFirst, PartialSums, Mixing, Holding, Keeping, Filling, FilledMean, Refusals, RefusedTimes, RefusedPel, RefusedPairs, RefusedTotals, Hosting}
+use Rattle.figures.specs.Others.{RefusedGrids, RefusedSteps, Beyond, AddingHalf, MarkedOnly, SizeFirst, PartialSums, Mixing, Holding, Keeping, Filling, FilledMean, Refusals, RefusedTimes, RefusedPel, RefusedPairs, Hosting}
 
 pub P : TheoremP
 unfolding Ieee.add Ieee.div Ieee.eq Ieee.isNan Ieee.le Ieee.lt Ieee.mul Ieee.ofBits Ieee.ofInt Ieee.sub Ieee.toUnsigned counted each painted scan scanRow stroke tabulate tally turns abs clamp max median min mix negative pixel rounded stored roundedShort firstFitting peelRefusal unpeelRefusal isPlain set total distances least nearestTo chromaTexel distance gainTotal gap lumaTexel mixedModel modelAt sample texel filled gathered lifted meanOr point ring scene stepped under layered peelRule relaid unpeelRule column step
@@ -43,7 +43,7 @@ unfolding Ieee.add Ieee.div Ieee.eq Ieee.isNan Ieee.le Ieee.lt Ieee.mul Ieee.ofB
 sizeFirst = refl
 
 pub partialSums : PartialSums
-unfolding Ieee.add Ieee.div Ieee.eq Ieee.isNan Ieee.le Ieee.lt Ieee.mul Ieee.ofBits Ieee.ofInt Ieee.sub all any howMany scan scanRow tabulate turns abs clamp max min mix negative rounded stored roundedShort assembleTable firstFitting blend error isPlain left line model same set spread trust best better chromaOffset fitted found ownSame pick total tried window cover kept marks near assembleRefusal assembled cellEntry chromaTotal lumaEntry modelSlice totalsFit rough column step
+unfolding Ieee.add Ieee.div Ieee.eq Ieee.isNan Ieee.le Ieee.lt Ieee.mul Ieee.ofBits Ieee.ofInt Ieee.sub all any howMany scan scanRow tabulate turns abs clamp max min mix negative rounded stored roundedShort firstFitting blend error isPlain left line model same set spread trust best better chromaOffset fitted found ownSame pick total tried window cover kept marks near assembleRefusal assembled cellEntry chromaTotal lumaEntry modelSlice storedTotal rough column step
 partialSums = refl
 
 pub mixing : Mixing
@@ -87,12 +87,8 @@ unfolding each firstFitting holdRefusal
 refusedSteps = (refl, refl, refl, refl)
 
 pub refusedPairs : RefusedPairs
-unfolding Ieee.add Ieee.div Ieee.eq Ieee.isNan Ieee.le Ieee.lt Ieee.mul Ieee.ofBits Ieee.ofInt Ieee.sub all any howMany scan scanRow tabulate turns abs clamp max min mix negative rounded stored roundedShort firstFitting fitTable blend error isPlain left line model same set spread trust best better chromaOffset fitted found ownSame pick total tried window cover kept keptModels marks near chromaTotal totalsFit fitModels fitRefusal rough column step
+unfolding Ieee.le Ieee.ofBits firstFitting fitRefusal
 refusedPairs = refl
-
-pub refusedTotals : RefusedTotals
-unfolding Ieee.add Ieee.div Ieee.eq Ieee.isNan Ieee.le Ieee.lt Ieee.mul Ieee.ofBits Ieee.ofInt Ieee.sub all any howMany scan scanRow tabulate turns abs clamp max min mix negative rounded stored roundedShort assembleTable firstFitting blend error isPlain left line model same set spread trust best better chromaOffset fitted found ownSame pick total tried window cover kept marks near assembleRefusal assembled cellEntry chromaTotal lumaEntry modelSlice totalsFit rough column step
-refusedTotals = (refl, refl, refl, refl, refl)
 
 pub hosting : Hosting
 unfolding Ieee.add Ieee.div Ieee.eq Ieee.isNan Ieee.le Ieee.lt Ieee.mul Ieee.ofBits Ieee.ofInt Ieee.sub Ieee.toUnsigned counted each scan scanRow tabulate tally turns abs clamp min mix negative pixel rounded firstFitting peelRefusal isPlain total chromaTexel distance gainTotal gap lumaTexel mixedModel modelAt sample texel filled gathered lifted meanOr point ring scene stepped under layered peelRule column step numbers

@@ -1,3 +1,4 @@
 pub mod P
 pub mod Others
 pub mod Parcels
+pub mod Casts

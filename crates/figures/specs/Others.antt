@@ -9,15 +9,14 @@ use lib.ListN.{getD, replicate}
 use lib.Ieee.{Float, nan}
 use Rattle.rules.specs.declared.Answer.{Answer}
 use Rattle.rules.specs.Forms.{Plane, Part, Layer, tabulate}
-use Rattle.rules.specs.Literals.{lit, 0·0, 0·5, 1·0, 2·0, 4·0, 4096·0}
+use Rattle.rules.specs.Literals.{lit, 0·0, 0·5, 1·0, 2·0, 4·0}
 use Rattle.rules.specs.Float.{_⊕_, cut, pixel}
 use Rattle.rules.specs.Calls.{AssembleCall, UnpeelCall, RenderCall, ApplyCall}
-use Rattle.rules.specs.Refusals.{distancesRefusal, emptyRefusal, holdRefusal}
+use Rattle.rules.specs.Refusals.{distancesRefusal, emptyRefusal, holdRefusal, fitRefusal}
 use Rattle.rules.specs.Model.{Fitted, unfitted}
 use Rattle.rules.specs.Keeping.{near, kept, cover}
 use Rattle.rules.specs.Distances.{distancesLeaves}
-use Rattle.rules.specs.Assembly.{assembleRefusal, assembleLeaves}
-use Rattle.rules.specs.Fit.{fitRefusal}
+use Rattle.rules.specs.Assembly.{assembleLeaves}
 use Rattle.rules.specs.Peel.{layered, peelAnswer, peelLeaves}
 use Rattle.rules.specs.Unpeel.{unpeelAnswer, unpeelLeaves}
 use Rattle.rules.specs.Render.{renderAnswer, renderLeaves}
@@ -215,18 +214,6 @@ RefusedPairs =
       cover = 0 ∷ [];
       output = record { luma = replicate 2 (pos 0); chroma = (replicate 2 (pos 0), replicate 2 (pos 0)) };
     }) ≡ 7
-
--- "ratio 2, four offsets of 4096.0"; four of 512.0 make 32768, which is refused, four of -512.0 -32768, which is not
-abbrev pub allFour : Float → AssembleCall
-allFour a = fourOffsets a a a a
-
--- 4096.0, 512.0, -512.0
-abbrev pub RefusedTotals : Type 0
-RefusedTotals =
-    (assembleRefusal (allFour 4096·0) ≡ 8) × (assembleLeaves (allFour 4096·0) .chroma .0 ≡ pos 5 ∷ pos 5 ∷ [])
-    × (assembleRefusal (allFour (lit 0x4400_0000)) ≡ 8)
-    × (assembleLeaves (allFour (lit 0xc400_0000)) .chroma .0 ≡ negsuc 32767 ∷ pos 0 ∷ [])
-    × (assembleLeaves (allFour (lit 0xc400_0000)) .chroma .1 ≡ pos 0 ∷ pos 9 ∷ [])
 
 -- the host: little-endian numbers, an odd byte passed over; count times 256 plus the number
 abbrev pub Hosting : Type 0

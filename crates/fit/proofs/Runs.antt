@@ -1,4 +1,4 @@
--- A call of fit that no row of its table fits, but the last perhaps: it can be run. Assumes nothing.
+-- A call of fit that no row of its table fits: it can be run. Assumes nothing.
 use mathlib.Core.Path.{_≡_, refl, _∙_, sym}
 use mathlib.Core.Bool.{true}
 use mathlib.Core.List.{List}
@@ -10,14 +10,12 @@ use lib.IntN.{ℤ}
 use lib.ListN.{length}
 use lib.Ieee.{Float}
 use Rattle.rules.specs.Forms.{Part, Parts}
-use Rattle.rules.specs.Calls.{FitCall}
 use Rattle.rules.specs.Domain.{sumsLength, chromaSumsLength, fitLength, fitChromaLength, modelsLength, keptLength, coverLength, areSums}
-use Rattle.rules.specs.Refusals.{firstFitting, isNeighbour, fitTable}
+use Rattle.rules.specs.Refusals.{isNeighbour, fitRefusal}
 use Rattle.laws.proofs.Accepted.{both, row-right, exact-in}
 use Rattle.plane.specs.Slices.{Slices}
 use Rattle.fit_refuse.specs.declared.Numbers.{Numbers}
-use Rattle.assemble_offsets.specs.Sizes.{Formed, modelsLong}
-use Rattle.assemble_store.specs.Entries.{coverLong, Room}
+use Rattle.assemble_store.specs.Entries.{Source, Room}
 use Rattle.calls.specs.Lent.{fitOf}
 use Rattle.assemble.specs.Call.{sizesOf}
 use Rattle.assemble.proofs.Runs.{formed}
@@ -33,10 +31,7 @@ beside-in own other width height ratio sums neighbour some =
     (b .0 ∙ sym (a .0), b .1 ∙ sym (a .1), b .2 ∙ sym (a .2))
 
 module _ (sums : Slices Float) (n : Numbers) (models : List Float) (kept cover : List ℕ) (luma first second : List ℤ)
-    (e : firstFitting (fitTable (fitBy sums n models kept cover (fitOf luma first second)) true) ≡ 0) where
-  abbrev call : FitCall
-  call = fitBy sums n models kept cover (fitOf luma first second)
-
+    (e : fitRefusal (fitBy sums n models kept cover (fitOf luma first second)) ≡ 0) where
   abbrev parts : Parts
   parts = partsBy sums (n .pairs)
 
@@ -50,9 +45,9 @@ module _ (sums : Slices Float) (n : Numbers) (models : List Float) (kept cover :
   ratio = n .ratio
 
   pub asks : Asks parts (sizesOf width height ratio) models kept cover
-  unfolding fitTable
+  unfolding fitRefusal
   asks =
-      let ok = row-right (fitTable call true) refl e in
+      let ok = row-right _ refl e in
       let f = formed width height ratio (ok 0 _ refl) (ok 1 _ refl) in
       let own = exact-in (parts .own .luma) (parts .own .chroma) (sumsLength (width, height), chromaSumsLength (width, height) ratio) (ok 3 _ refl) in
       let pairs = both (leb 1 (parts .own .pairs)) (leb (parts .own .pairs) 12) (ok 12 _ refl) in
@@ -74,12 +69,12 @@ module _ (sums : Slices Float) (n : Numbers) (models : List Float) (kept cover :
       }
 
   room : Room luma first second (sizesOf width height ratio)
-  unfolding fitTable
+  unfolding fitRefusal
   room =
-      let t = exact-in luma (first, second) (fitLength (width, height), fitChromaLength (width, height) ratio) (row-right (fitTable call true) refl e 8 _ refl) in
+      let t = exact-in luma (first, second) (fitLength (width, height), fitChromaLength (width, height) ratio) (row-right _ refl e 8 _ refl) in
       record { luma-long = t .0; first-long = t .1; second-long = t .2 }
 
   -- and so can assembly be, on work slices of the same lengths
   pub assembles : (models' : List Float) (cover' : List ℕ) → length models' ≡ length models → length cover' ≡ length cover
-      → Formed (sizesOf width height ratio) × modelsLong models' (sizesOf width height ratio) × coverLong cover' (sizesOf width height ratio) × Room luma first second (sizesOf width height ratio)
-  assembles models' cover' m k = (asks .formed, m ∙ asks .work .models-long, k ∙ asks .work .cover-long, room)
+      → let sizes = sizesOf width height ratio in Source sizes models' cover' × Room luma first second sizes
+  assembles models' cover' m k = (record { formed = asks .formed; models-long = m ∙ asks .work .models-long; cover-long = k ∙ asks .work .cover-long }, room)

@@ -10,12 +10,13 @@ use Rattle.rules.specs.declared.Answer.{Answer}
 use Rattle.rules.specs.Forms.{Part, Parts, Fit, uncounted, tabulate, cells}
 use Rattle.rules.specs.Float.{_⊗_}
 use Rattle.rules.specs.Calls.{FitCall}
+use Rattle.rules.specs.Refusals.{fitRefusal}
 use Rattle.rules.specs.Model.{Fitted}
 use Rattle.rules.specs.Window.{window, chromaAt, fitted}
 use Rattle.rules.specs.Keeping.{cover, keptModels}
 use Rattle.rules.specs.Distances.{distances}
 use Rattle.rules.specs.Assembly.{modelSlice}
-use Rattle.rules.specs.Fit.{fitRefusal, fitLeaves, freesWork}
+use Rattle.rules.specs.Fit.{fitLeaves, freesWork}
 use Rattle.fit_trial.specs.declared.Settings.{Settings}
 use Rattle.assemble_offsets.specs.declared.Sizes.{Sizes}
 use Rattle.assemble_offsets.specs.Sizes.{Formed}

@@ -57,6 +57,9 @@ pub fn fit(
     let sizes = assemble::sizes_of(numbers.width, numbers.height, numbers.ratio);
     let pairs = numbers.pairs;
     fitted(models, kept, cover, sums, sizes, pairs, numbers.settings);
-    let number = assemble::assembled(luma, chroma1, chroma2, sizes, models, cover);
-    Answer { number, count: 0 }
+    assemble_store::store(luma, chroma1, chroma2, sizes, models, cover);
+    Answer {
+        number: 0,
+        count: 0,
+    }
 }

@@ -2,10 +2,9 @@
 // previous part, of the own and of the next; `pairs` are the pairs of these parts.
 use fit_trial::Settings;
 ghost use mathlib.Core.Path.{_≡_};
-ghost use mathlib.Core.Bool.{true};
-ghost use mathlib.Core.List.{_∷_, []};
+ghost use mathlib.Core.List.{[]};
 ghost use Rattle.rules.specs.Domain.{areSums};
-ghost use Rattle.rules.specs.Refusals.{_unless_, firstFitting, isNeighbour, fitTable};
+ghost use Rattle.rules.specs.Refusals.{firstFitting, isNeighbour, fitRefusal};
 ghost use Rattle.calls.specs.Lent.{partOf, fitOf};
 ghost use Rattle.fit_refuse.specs.Call.{fitBy, settingRows};
 
@@ -60,7 +59,7 @@ fn neighbour(
 
 // The number of a limit, an evidence figure or pairs outside their ranges, or 0.
 fn ranges(settings: Settings, pairs: [usize; 3]) -> u8
-    ensures { λ r. ⌜ r ≡ firstFitting (settingRows settings pairs ((8 unless true) ∷ [])) ⌝ }
+    ensures { λ r. ⌜ r ≡ firstFitting (settingRows settings pairs []) ⌝ }
 {
     let first = plane::within(settings.limit, 0.5, 255.0);
     let second = plane::within(settings.evidence, 0.0, 65536.0);
@@ -83,7 +82,7 @@ fn ranges(settings: Settings, pairs: [usize; 3]) -> u8
     )
 }
 
-// The number of the refusal, or 0, before the totals are looked at.
+// The number of the refusal, or 0.
 pub fn refusal(
     models: &[f32],
     kept: &[u8],
@@ -95,8 +94,8 @@ pub fn refusal(
     numbers: Numbers,
 ) -> u8
     ensures { λ r. ⌜
-        r ≡ firstFitting (fitTable (fitBy (sums .entry) numbers (now (models .entry)) (now (kept .entry)) (now (cover .entry))
-        (fitOf (now (luma .entry)) (now (chroma1 .entry)) (now (chroma2 .entry)))) true) ⌝ }
+        r ≡ fitRefusal (fitBy (sums .entry) numbers (now (models .entry)) (now (kept .entry)) (now (cover .entry))
+        (fitOf (now (luma .entry)) (now (chroma1 .entry)) (now (chroma2 .entry)))) ⌝ }
 {
     let width = numbers.width;
     let height = numbers.height;

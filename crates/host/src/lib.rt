@@ -7,12 +7,12 @@ use rules::Sizes;
 ghost use mathlib.Core.Path.{_≡_};
 ghost use Rattle.rules.specs.Forms.{uncounted};
 ghost use Rattle.rules.specs.Calls.{DistancesCall};
-ghost use Rattle.rules.specs.Refusals.{statsRefusal, distancesRefusal, parcelWriteRefusal, maskRefusal, applyRefusal, holdRefusal};
+ghost use Rattle.rules.specs.Refusals.{statsRefusal, distancesRefusal, parcelWriteRefusal, maskRefusal, applyRefusal, holdRefusal, assembleRefusal, fitRefusal};
 ghost use Rattle.rules.specs.Float.{pixel as pixelOf, stored};
 ghost use Rattle.rules.specs.Distances.{distancesLeaves};
 ghost use Rattle.rules.specs.Reading.{emptyAnswer};
-ghost use Rattle.rules.specs.Assembly.{assembleRefusal, assembleLeaves};
-ghost use Rattle.rules.specs.Fit.{fitRefusal, fitLeaves};
+ghost use Rattle.rules.specs.Assembly.{assembleLeaves};
+ghost use Rattle.rules.specs.Fit.{fitLeaves};
 ghost use Rattle.rules.specs.Peel.{peelAnswer, peelLeaves};
 ghost use Rattle.rules.specs.Unpeel.{unpeelAnswer, unpeelLeaves};
 ghost use Rattle.rules.specs.Render.{renderAnswer, renderLeaves};
@@ -223,7 +223,7 @@ pub extern "C" fn safeteal_assemble(
 }
 
 // `before`, `pairs` and `after` are the pairs of the previous, own and next part. What the work slices (models, kept,
-// cover) hold after acceptance and after 8 is left free: alone of all slices here.
+// cover) hold after acceptance is left free: alone of all slices here.
 #[no_mangle]
 pub extern "C" fn safeteal_fit<'s>(
     previous: &'s [f32],

@@ -39,6 +39,18 @@ row-right (row ∷ rest) some e (suc k) right is =
     let s = both (not (eqb (row .0) 0)) (numbered rest) some in
     row-right rest (s .1) (passed (row .0) (firstFitting rest) (row .1) (s .0) e .1) k right is
 
+-- what holds of 0 and of each row's number holds of the table's
+pub number-passes : (test : ℕ → Bool) (t : Table) → test 0 ≡ true → each (λ row. test (row .0)) t ≡ true → test (firstFitting t) ≡ true
+unfolding firstFitting each
+number-passes test [] none e = none
+number-passes test (row ∷ rest) none e =
+    let s = both (test (row .0)) (each (λ row. test (row .0)) rest) e in
+    first (row .1) (row .0) (firstFitting rest) (s .0) (number-passes test rest none (s .1))
+  where
+    first : (fits : Bool) (n rest : ℕ) → test n ≡ true → test rest ≡ true → test (cond fits n rest) ≡ true
+    first true n rest a b = a
+    first false n rest a b = b
+
 -- ---- sizes, ratios, pitches and lengths
 
 -- from 1 to 4096

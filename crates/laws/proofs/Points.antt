@@ -6,7 +6,8 @@ use lib.Pow.{pow-pos}
 use native.Mathlib.Nat.{le-trans, mul-pos}
 use native.Mathlib.Omega.{arith}
 use borrow.Author.Tests.{le-ltb}
-use lib.IntN.{ℤ, pos, negℤ, natAbs}
+use lib.IntN.{ℤ, pos, negsuc, negℤ, natAbs}
+use lib.Signed.{mag, ltZ}
 use lib.Dec.{T, ltb, le→leb, lit<, lit≤}
 use lib.Ieee.{Float, nan, inf, fin, Format, binary32, up, down, round, units, odd, sum, neg, sub, div, eq, lt, ofBits, inFloat, prec, low, emax, unlike}
 use lib.Ieee.Exact.{HasValue}
@@ -18,8 +19,9 @@ use Rattle.rules.specs.Literals.{0·0, 0·2, 4096·0}
 use Rattle.rules.specs.Float.{_⊖_, _⊘_, _≼_, float, signed, cut, abs, _⊗_, rounded, negative, stored, roundedShort}
 use Rattle.rules.specs.Forms.{Layer}
 use Rattle.rules.specs.Model.{plain, set}
+use Rattle.rules.specs.Assembly.{storedTotal}
 use Rattle.rules.specs.Reading.{fraction, texel, modelAt}
-use Rattle.laws.proofs.Signed.{neg-size}
+use Rattle.laws.proofs.Signed.{mag-within, neg-size}
 use Rattle.laws.proofs.Value.{by-value}
 use Rattle.laws.proofs.Whole.{minus?, int-value, add-at}
 
@@ -124,6 +126,16 @@ stored-small v s = go (negative (v ⊗ s)) (rounded 32767 (v ⊗ s)) (rounded-sm
     go : (b : Bool) (n : ℕ) → n ≤ 32767 → natAbs (cond b (negℤ (pos n)) (pos n)) ≤ 32767
     go true n h = rw (neg-size n) h
     go false n h = h
+
+-- a stored total is "held to -32768 or 32767"
+pub total-small : (total : ℤ) → mag (storedTotal total .0) < 32768
+unfolding storedTotal
+total-small total = go (ltZ total (negsuc 32767)) (ltZ (pos 32767) total) refl refl
+  where
+    go : (low high : Bool) → ltZ total (negsuc 32767) ≡ low → ltZ (pos 32767) total ≡ high → mag (cond low (negsuc 32767) (cond high (pos 32767) total)) < 32768
+    go true high e f = lit< tt
+    go false true e f = lit< tt
+    go false false e f = mag-within 32767 total e f
 
 -- ---- the plain model is not set
 pub set-plain : set plain ≡ false

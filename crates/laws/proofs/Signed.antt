@@ -4,11 +4,11 @@ use mathlib.Core.Bool.{Bool, true, false, cond}
 use Prim.Native.Nat.{ℕ, zero, suc, _+_, _-_, _≤_, _<_, _^_}
 use native.Mathlib.Nat.{zero-add}
 use native.Mathlib.Omega.{arith}
-use borrow.Author.Tests.{ltb-true}
+use borrow.Author.Tests.{ltb-true, ltb-false}
 use lib.Dec.{T, ltb, le→leb, lt→ltb}
 use lib.IntN.{ℤ, pos, negsuc, negℤ, natAbs, subℕ, _+ℤ_, _-ℤ_}
 use lib.Ieee.{binary32, inFloat}
-use lib.Signed.{mag}
+use lib.Signed.{mag, ltZ}
 use mir.Syntax.{Width}
 use mir.Val.{toZ, ofZ, hbits, SFits}
 use mir.ValLaws.{toZ-ofZ}
@@ -22,6 +22,11 @@ back w z h = toZ-ofZ w z (record { sfits = h })
 pub fits : (w : Width) (z : ℤ) → natAbs z < 2 ^ hbits w → SFits w z
 fits w (pos n) h = record { sfits = h }
 fits w (negsuc n) h = record { sfits = omega arith }
+
+-- two tests that failed bound it
+pub mag-within : (h : ℕ) (z : ℤ) → ltZ z (negsuc h) ≡ false → ltZ (pos h) z ≡ false → mag z < h + 1
+mag-within h (pos n) low high = omega (arith, ltb-false h n high)
+mag-within h (negsuc n) low high = omega (arith, ltb-false h n low)
 
 pub again : (w : Width) (z : ℤ) → natAbs z < 2 ^ hbits w → toZ w (ofZ w z) ≡ z
 again w z h = toZ-ofZ w z (fits w z h)

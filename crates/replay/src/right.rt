@@ -86,10 +86,9 @@ fn bits(x: f32) -> u32 {
     f32::to_bits(x)
 }
 
-// The comparison after slices that are free where the answer's number is 0 or 8.
+// The comparison after slices that are free where the answer's number is 0.
 pub fn unless_free(before: Check, check: Check, ours: u64) -> Check {
-    let number = ours % 256;
-    if number == 0 || number == 8 {
+    if ours % 256 == 0 {
         return Check {
             at: check.at,
             same: before.same,

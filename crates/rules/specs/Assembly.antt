@@ -1,11 +1,10 @@
 -- "Assembly": models and a cover as the numbers of a layer, and the call of assemble.
-use Rattle.rules.specs.Words.{Bool, cond, _&&_, List, ℕ, _+_, _-_, _*_, _/_, _%_, ltb, eqb, ℤ, pos, negℤ, _+ℤ_, getD, Float, nan, Gain, Offset}
+use Rattle.rules.specs.Words.{cond, _&&_, List, ℕ, _+_, _-_, _*_, _/_, _%_, ltb, eqb, ℤ, pos, negℤ, _+ℤ_, ltZ, getD, Float, nan, Gain, Offset}
 use Rattle.rules.specs.Literals.{64·0, 4096·0}
 use Rattle.rules.specs.Float.{_⊘_, float, stored}
-use Rattle.rules.specs.Forms.{Fit, tabulate, all, scan, cells, area, shrunk, leaves}
+use Rattle.rules.specs.Forms.{Fit, tabulate, scan, cells, area, shrunk, leaves}
 use Rattle.rules.specs.Calls.{AssembleCall}
-use Rattle.rules.specs.Domain.{spans}
-use Rattle.rules.specs.Refusals.{firstFitting, assembleTable}
+use Rattle.rules.specs.Refusals.{assembleRefusal}
 use Rattle.rules.specs.Model.{Fitted, unfitted}
 use Rattle.rules.specs.Keeping.{modelOf}
 
@@ -35,12 +34,12 @@ chromaTotal models width ratio plane k =
     let term : ℕ → ℤ = λ at. storedOffset (offsetOf models plane at ⊘ float (ratio * ratio)) .0 in
     scan (λ dx dy t. t +ℤ term ((k / across * ratio + dy) * width + (k % across * ratio + dx))) (ratio, ratio) (pos 0)
 
--- "partial sums may leave the range, the total may not": whether every total of both planes is in -32768..32767
-unfoldable pub totalsFit : List Fitted → (size : ℕ × ℕ) → (ratio : ℕ) → Bool
-totalsFit models size ratio =
-    let inRange = spans (negℤ (pos 32768)) (pos 32767) in
-    let total = chromaTotal models (size .0) ratio in
-    all (area (shrunk size ratio)) (λ k. inRange (total 1 k) && inRange (total 2 k))
+-- 02: "A chroma total outside the range is now held to -32768 or 32767. The total is still summed whole first."
+unfoldable pub storedTotal : (total : ℤ) → Offset
+storedTotal total =
+    let least = negℤ (pos 32768) in
+    let most = pos 32767 in
+    record { 0 = cond (ltZ total least) least (cond (ltZ most total) most total) }
 
 -- entry j of the cells, "one row per chroma row; all other entries there .. are 0"
 unfoldable pub cellEntry : (cover : List ℕ) → (size : ℕ × ℕ) → (across j : ℕ) → ℤ
@@ -53,12 +52,12 @@ cellEntry cover size across j =
 unfoldable pub assembled : List Fitted → (cover : List ℕ) → (size : ℕ × ℕ) → (ratio : ℕ) → Fit
 assembled models cover size ratio =
     let pixels = area (shrunk size ratio) in
-    let total = chromaTotal models (size .0) ratio in
+    let offset : (plane k : ℕ) → Offset = λ plane k. storedTotal (chromaTotal models (size .0) ratio plane k) in
     record {
       luma = tabulate (2 * area size) (lumaEntry models (area size));
       chroma = (
-        tabulate (2 * pixels) (λ i. cond (ltb i pixels) (total 1 i) (pos 0)),
-        tabulate (2 * pixels) (λ i. cond (ltb i pixels) (total 2 i) (cellEntry cover size (size .0 / ratio) (i - pixels))),
+        tabulate (2 * pixels) (λ i. cond (ltb i pixels) (offset 1 i .0) (pos 0)),
+        tabulate (2 * pixels) (λ i. cond (ltb i pixels) (offset 2 i .0) (cellEntry cover size (size .0 / ratio) (i - pixels))),
       );
     }
 
@@ -69,10 +68,6 @@ modelSlice s pixels =
       model = record { gain = getD s (at * 4) nan; offset = getD s (at * 4 + 1) nan };
       chroma = (getD s (at * 4 + 2) nan, getD s (at * 4 + 3) nan);
     })
-
--- "8, found before any write"
-unfoldable pub assembleRefusal : AssembleCall → ℕ
-assembleRefusal c = firstFitting (assembleTable c (totalsFit (modelSlice (c .models) (area (c .size))) (c .size) (c .ratio)))
 
 -- "`assemble` stores any cover bytes"
 abbrev pub assembleLeaves : AssembleCall → Fit

@@ -1,14 +1,14 @@
 -- "One fit, followed down": the window, keeping, distances and assembly, one after the other.
-use Rattle.rules.specs.Words.{Bool, _||_, List, ℕ, eqb, Found}
+use Rattle.rules.specs.Words.{Bool, List, ℕ, eqb, Found}
 use Rattle.rules.specs.Float.{_⊗_}
 use Rattle.rules.specs.Forms.{Fit, tabulate, cells, area, leaves}
 use Rattle.rules.specs.Calls.{FitCall}
-use Rattle.rules.specs.Refusals.{firstFitting, fitTable}
+use Rattle.rules.specs.Refusals.{fitRefusal}
 use Rattle.rules.specs.Model.{Fitted}
 use Rattle.rules.specs.Window.{window, chromaAt, fitted}
 use Rattle.rules.specs.Keeping.{cover, keptModels}
 use Rattle.rules.specs.Distances.{distances}
-use Rattle.rules.specs.Assembly.{totalsFit, assembled}
+use Rattle.rules.specs.Assembly.{assembled}
 
 -- the window's answer at each luma pixel, "with limit squared"
 unfoldable pub rough : FitCall → List Fitted
@@ -24,14 +24,10 @@ fitModels c = keptModels (rough c) (c .size)
 unfoldable pub fitCover : FitCall → List ℕ
 fitCover c = distances (cover (rough c) (c .size)) (cells (c .size .0))
 
--- "8, found before any write" of the outputs
-unfoldable pub fitRefusal : FitCall → ℕ
-fitRefusal c = firstFitting (fitTable c (totalsFit (fitModels c) (c .size) (c .ratio)))
-
 -- what fit stores
 unfoldable pub fitLeaves : FitCall → Fit
 fitLeaves c = leaves (fitRefusal c) (assembled (fitModels c) (fitCover c) (c .size) (c .ratio)) (c .output)
 
--- "fit's work slices are left free after acceptance and after 8": by every other number they are unchanged
+-- "fit's work slices are left free after acceptance", and by every refusal they are unchanged
 abbrev pub freesWork : (number : ℕ) → Bool
-freesWork number = eqb number 0 || eqb number 8
+freesWork number = eqb number 0

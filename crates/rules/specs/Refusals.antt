@@ -1,4 +1,5 @@
--- "Domain", its table: the rows of each call, "checked in this order". Rows that a call does not have are left out.
+-- "Domain", its table: the rows of each call, "checked in this order". Rows that a call does not have are left out, and
+-- the last one altogether: 02 takes it away.
 use Rattle.rules.specs.Words.{Bool, cond, not, _&&_, _||_, List, [], _∷_, ℕ, leb, eqb, length}
 use Rattle.rules.specs.Literals.{0·0, 0·5, 255·0, 65536·0}
 use Rattle.rules.specs.Float.{within}
@@ -69,12 +70,12 @@ statsRefusal c =
 abbrev pub isNeighbour : Part → ℕ × ℕ → (ratio : ℕ) → Bool
 isNeighbour p size ratio = eqb (p .pairs) 0 || areSums p size ratio
 
--- fit: "pairs above 12; own part 0"; `totals` says that each chroma offset total is in its range
-unfoldable pub fitTable : FitCall → (totals : Bool) → Table
-fitTable c totals =
+-- fit: "pairs above 12; own part 0"
+unfoldable pub fitRefusal : FitCall → ℕ
+fitRefusal c =
     let size = c .size in
     let parts = c .parts in
-    sizeRows size (c .ratio) (
+    firstFitting (sizeRows size (c .ratio) (
     (4 unless isNeighbour (parts .previous) size (c .ratio))
     ∷ (4 unless areSums (parts .own) size (c .ratio))
     ∷ (4 unless isNeighbour (parts .next) size (c .ratio))
@@ -87,18 +88,16 @@ fitTable c totals =
     ∷ (7 unless leb (parts .previous .pairs) 12)
     ∷ (7 unless leb 1 (parts .own .pairs) && leb (parts .own .pairs) 12)
     ∷ (7 unless leb (parts .next .pairs) 12)
-    ∷ (8 unless totals)
-    ∷ [])
+    ∷ []))
 
--- assemble; `totals` as in fit
-unfoldable pub assembleTable : AssembleCall → (totals : Bool) → Table
-assembleTable c totals =
-    sizeRows (c .size) (c .ratio) (
+-- assemble: models, a cover, and the slices that it fills
+unfoldable pub assembleRefusal : AssembleCall → ℕ
+assembleRefusal c =
+    firstFitting (sizeRows (c .size) (c .ratio) (
     (4 unless areModels (c .models) (c .size))
     ∷ (4 unless isCover (c .cover) (c .size))
     ∷ (4 unless isFit (c .output) (c .size) (c .ratio))
-    ∷ (8 unless totals)
-    ∷ [])
+    ∷ []))
 
 -- "(`distances`: only width 0)"
 unfoldable pub distancesRefusal : DistancesCall → ℕ

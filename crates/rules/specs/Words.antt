@@ -4,7 +4,7 @@ pub use mathlib.Core.List.{List, [], _∷_, _++_}
 pub use Prim.Native.Nat.{ℕ, zero, suc, _+_, _-_, _*_, _/_, _%_}
 pub use lib.Dec.{leb, ltb, eqb}
 pub use lib.IntN.{ℤ, pos, negsuc, negℤ, subℕ, _+ℤ_}
-pub use lib.Signed.{leZ}
+pub use lib.Signed.{leZ, ltZ}
 pub use lib.ListN.{length, getD, set, take, drop}
 pub use lib.Ieee.{Float, nan, inf, fin, binary32, up, down}
 unfoldable pub use lib.Ieee.{ofBits, ofInt, toUnsigned, isNan}

@@ -15,12 +15,6 @@ row n rows e f g = rw (e, f, g)
 
 -- ---- the last row
 
--- the rows before it
-abbrev pub front : Table → Table
-front [] = []
-front (a ∷ []) = []
-front (a ∷ (b ∷ rest)) = a ∷ front (b ∷ rest)
-
 -- the number with the last row, which gives `last` unless `right`
 abbrev pub after : (last : ℕ) → (right : Bool) → (number : ℕ) → ℕ
 after last right number = cond (eqb number 0) (cond (not right) last 0) number

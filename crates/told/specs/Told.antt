@@ -6,7 +6,8 @@ use Prim.Native.Nat.{ℕ}
 use lib.Ieee.{Float}
 use Rattle.rules.specs.declared.Answer.{Answer}
 use Rattle.rules.specs.Calls.{FitCall}
-use Rattle.rules.specs.Fit.{fitRefusal, freesWork}
+use Rattle.rules.specs.Refusals.{fitRefusal}
+use Rattle.rules.specs.Fit.{freesWork}
 use Rattle.rules.specs.Host.{word}
 
 -- one slice
@@ -21,7 +22,7 @@ pub record ToldThree {A : Type 0} (answer : Answer) (luma : List A) (chroma : Li
   pub chroma1-left : chroma1′ ≡ chroma .0
   pub chroma2-left : chroma2′ ≡ chroma .1
 
--- fit's work slices: every refusal but 8 leaves them as they were, acceptance and 8 leave them free
+-- fit's work slices: every refusal leaves them as they were, acceptance leaves them free
 pub record WorkStays (c : FitCall) (models′ : List Float) (kept′ cover′ : List ℕ) : Type 0 where
   pub models-stay : freesWork (fitRefusal c) ≡ false → models′ ≡ c .models
   pub kept-stays : freesWork (fitRefusal c) ≡ false → kept′ ≡ c .kept

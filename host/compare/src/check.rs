@@ -12,6 +12,7 @@ pub mod masked;
 
 pub mod answer;
 pub mod case;
+pub mod casts;
 pub mod damage;
 pub mod expected;
 pub mod inputs;
@@ -24,6 +25,7 @@ pub mod show;
 pub mod shrink;
 pub mod stored;
 pub mod table;
+pub mod totals;
 
 pub mod apply;
 pub mod assemble;
@@ -42,6 +44,7 @@ pub mod unpeel;
 
 pub use case::Case;
 pub use run::Call;
+pub use stored::Stored;
 
 /// Every call that is compared. The stored list, which holds the Rust's answers, names a call by its number here, which
 /// therefore never changes.
@@ -64,16 +67,13 @@ pub const CALLS: &[Call] = &[
     Call::of::<parcel_sizes::ParcelSizes>(),
 ];
 
-/// The stored list: for each call some cases of every refusal, then as many accepted ones as fit into its share of 300 KB.
-pub fn answers() -> Vec<u8> {
+/// The stored list, call by call: some cases of every refusal and of every way of a chroma total out of the range, then
+/// as many other accepted ones as fit into the call's share of 300 KB.
+pub fn answers() -> Vec<(&'static Call, Stored)> {
     const SEED: u64 = 20;
     const BYTES: usize = 300_000;
     let calls: Vec<&Call> = CALLS.iter().filter(|call| call.is_stored()).collect();
-    let of_call = |call: &&Call| {
-        let stored = call.record(SEED, BYTES / calls.len());
-        let (name, cases, bytes) = (call.name, stored.cases, stored.bytes.len());
-        words::note(&format!("{name}: {cases} cases, {bytes} bytes"));
-        stored.bytes
-    };
-    calls.iter().flat_map(of_call).collect()
+    let share = BYTES / calls.len();
+    let of_call = |call: &'static Call| (call, call.record(SEED, share));
+    calls.into_iter().map(of_call).collect()
 }

@@ -2,3 +2,4 @@
 //! code: the calls are held against these instead. They are plain rather than fast.
 
 pub mod parcel;
+pub mod total;

@@ -182,6 +182,8 @@ struct Seen {
     lost: usize,
     /// Cells whose distance is smaller in the second layer.
     nearer: usize,
+    /// Chroma entries of the second layer at either end of what is stored.
+    ends: [usize; 2],
     /// Counts with the first layer and with the second: of peel, unpeel and the three renders.
     counts: [[u64; 2]; 5],
     /// Bytes that must be the same, and are.
@@ -296,6 +298,7 @@ fn say(what: &str, seen: &Seen) {
         new,
         lost,
         nearer,
+        ends,
         counts: [peel, unpeel, render @ ..],
         peeled,
         unpeeled,
@@ -304,6 +307,7 @@ fn say(what: &str, seen: &Seen) {
     let _ = writeln!(
         std::io::stderr(),
         "chains, {what}: {chains} twice; dots: {stayed} stayed, {new} new, {lost} lost; {nearer} cells nearer; \
+         chroma entries at the ends: {ends:?}; \
          pixels: peel {} then {}, unpeel {} then {}, render {render} then {again}; \
          bytes held: peel {peeled}, unpeel {unpeeled}",
         peel[0],
@@ -458,7 +462,7 @@ mod random {
     use compare::check::rng::Rng;
     use compare::check::run::seeds;
     use compare::check::unpeel::Unpeel;
-    use safeteal::{Frames, Motion as Lent, Parts, Plane, Ratio, Size};
+    use safeteal::{Frames, Layer, Motion as Lent, Parts, Plane, Ratio, Size};
 
     use super::{held, say, Clip, Later, Seen};
 
@@ -474,7 +478,8 @@ mod random {
                 assert_eq!(outcome, Ok(()), "seed {seed}, clip {index}");
             }
             say(&format!("{CLIPS} random clips, seed {seed}"), &seen);
-            assert!(seen.chains as u64 > CLIPS / 2, "most fits are accepted");
+            assert_eq!(seen.chains as u64, CLIPS, "every fit is accepted");
+            assert!(!seen.ends.contains(&0), "casts beyond both ends are held");
             let [first, second] = [0, 1].map(|at| seen.counts.iter().all(|n| n[at] > 0));
             let bytes = seen.peeled.min(seen.unpeeled);
             assert!(first && second && bytes > 0, "every call writes");
@@ -483,7 +488,7 @@ mod random {
         }
     }
 
-    /// Both chains of a random clip, where both fits are accepted.
+    /// Both chains of a random clip.
     fn clip(rng: &mut Rng, seen: &mut Seen) -> Result<(), String> {
         let (width, height, ratio) = sizes(rng, 40);
         let kind = rng.below(KINDS);
@@ -513,10 +518,16 @@ mod random {
         };
         let figures = [figure(rng), figure(rng)];
         let (high, low) = (figures[0].max(figures[1]), figures[0].min(figures[1]));
-        let (Ok(first), Ok(second)) = (clip.chain(high), clip.chain(low)) else {
-            return Ok(());
-        };
+        let [first, second] = [high, low].map(|figure| clip.chain(figure).expect("a good input"));
+        let [low, high] = ends(second.layer.layer());
+        seen.ends = [seen.ends[0] + low, seen.ends[1] + high];
         held(&first, &second, seen)
+    }
+
+    /// How many chroma entries are at the lower end of what is stored, and how many at the upper.
+    fn ends(layer: Layer<'_>) -> [usize; 2] {
+        let totals = layer.chroma.map(|slice| &slice[..slice.len() / 2]).concat();
+        [i16::MIN, i16::MAX].map(|end| totals.iter().filter(|&&total| total == end).count())
     }
 
     fn later<'a>(lent: &'a Unpeel<i16>, size: Size, motion: Lent<'a>, algo: i32) -> Later<'a> {

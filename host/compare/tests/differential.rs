@@ -1,5 +1,6 @@
 //! The differential run: every call against the Rust, or against the second implementation of a call that the Rust does
-//! not have, at least 100,000 cases each.
+//! not have, at least 100,000 cases each. Chroma entries with a partial total outside the range are left out of the
+//! comparison with the Rust and held against plain arithmetic; the run says how many.
 //!
 //! `SAFETEAL_CASES` sets the number, `SAFETEAL_SEED` the one seed, `SAFETEAL_CALLS` the calls (names with commas),
 //! `SAFETEAL_TRACE` names each case before it runs.
@@ -60,7 +61,8 @@ fn compared(call: &compare::check::Call, cases: u64, seeds: &[u64]) -> Result<St
     Ok(tally.line())
 }
 
-/// What crates/replay runs is what would be stored today.
+/// What crates/replay runs is what would be stored today; and that has totals held to either end, and such as come back
+/// into the range.
 #[cfg(not(oracle_absent))]
 #[test]
 fn the_stored_answers_are_the_rusts() {
@@ -69,8 +71,15 @@ fn the_stored_answers_are_the_rusts() {
         "/../../crates/replay/data/answers"
     );
     let stored = std::fs::read(file).expect("the stored answers");
+    let mut right = Vec::new();
+    for (call, made) in compare::check::answers() {
+        let ways = [made.entries.above, made.entries.below, made.entries.back];
+        let sums = ["assemble", "fit"].contains(&call.name);
+        assert_eq!(!ways.contains(&0), sums, "{}: {}", call.name, made.line());
+        right.extend(made.bytes);
+    }
     assert!(
-        stored == compare::check::answers(),
+        stored == right,
         "they differ: run `cargo run --release --bin record -- ../crates/replay/data/answers`, and correct crates/replay/stdout"
     );
 }

@@ -1,5 +1,5 @@
-//! Chroma totals at the ends of what a layer stores, by assemble and by fit: summed whole, and refused (8) before any
-//! write.
+//! Chroma totals at the ends of what a layer stores and beyond them, by assemble and by fit: summed whole, then held to
+//! -32768 or 32767. All else of the layer is the Rust's.
 
 use safeteal::groups::{self, ABSENT};
 use safeteal::{
@@ -9,17 +9,22 @@ use safeteal::{
 /// What the outputs hold before a call.
 const BEFORE: i16 = -77;
 
-/// The outputs of a call, each number as before.
-struct Outputs {
+/// A total, and what is stored for it.
+type Total = (i64, i16);
+
+/// The slices of a layer that is one row of blocks.
+#[derive(Clone, Debug, PartialEq)]
+struct Slices {
     luma: Vec<i16>,
     chroma: [Vec<i16>; 2],
 }
 
-impl Outputs {
-    fn new(side: usize, ratio: usize) -> Self {
-        let plane = vec![BEFORE; 2 * (side / ratio) * (side / ratio)];
+impl Slices {
+    /// The outputs of a call, each number as before.
+    fn new(ratio: usize, blocks: usize) -> Self {
+        let plane = vec![BEFORE; 2 * blocks];
         Self {
-            luma: vec![BEFORE; 2 * side * side],
+            luma: vec![BEFORE; 2 * blocks * ratio * ratio],
             chroma: [plane.clone(), plane],
         }
     }
@@ -38,48 +43,167 @@ impl Outputs {
             .iter()
             .all(|slice| slice.iter().all(|&number| number == BEFORE))
     }
-}
 
-/// The total that assemble stores in plane 1 or 2 (`plane` 0 or 1) for four offsets of one block of ratio 2.
-fn assembled(plane: usize, offsets: [f32; 4]) -> Result<i16, Refusal> {
-    let models = offsets.map(|offset| {
-        let mut model = [1.0, 0.0, 0.0, 0.0];
-        model[2 + plane] = offset;
-        model
-    });
-    let mut made = Outputs::new(2, 2);
-    let size = Size::new(2, 2);
-    let answer = assemble(size, Ratio::Two, models.as_flattened(), &[0], made.lent());
-    assert_eq!(answer.is_err(), made.unchanged());
-    answer
-        .map(|()| made.chroma[plane][0])
-        .map_err(|error| error.refusal())
-}
-
-/// A stored offset of the four pixels of a block: a 64th of a quarter.
-const STEP: f32 = 4.0 / 64.0;
-
-#[test]
-fn assemble_accepts_the_ends_and_refuses_the_next() {
-    for plane in [0, 1] {
-        let total = |terms: [i16; 4]| assembled(plane, terms.map(|term| f32::from(term) * STEP));
-        assert_eq!(total([8192, 8192, 8192, 8191]), Ok(32767));
-        assert_eq!(total([-8192; 4]), Ok(-32768));
-        assert_eq!(total([8192; 4]), Err(Refusal::ChromaTotal));
-        assert_eq!(
-            total([-8192, -8192, -8192, -8193]),
-            Err(Refusal::ChromaTotal)
-        );
+    /// Asks for these totals in each plane, and for all else as the Rust made it, which wraps a total to 16 bits.
+    fn assert_right(&self, totals: [&[Total]; 2], rust: Option<Self>) {
+        for (slice, totals) in self.chroma.iter().zip(totals) {
+            let stored: Vec<i16> = totals.iter().map(|&(_, stored)| stored).collect();
+            assert_eq!(slice[..slice.len() / 2], stored, "{totals:?}");
+        }
+        let Some(mut right) = rust else {
+            return;
+        };
+        for (slice, totals) in right.chroma.iter_mut().zip(totals) {
+            for (entry, &(whole, stored)) in slice.iter_mut().zip(totals) {
+                assert_eq!(*entry, whole as i16, "{whole}");
+                *entry = stored;
+            }
+        }
+        assert_eq!(*self, right);
     }
 }
 
+#[cfg(not(oracle_absent))]
+impl From<compare::oracle::layer::Fit> for Slices {
+    fn from(made: compare::oracle::layer::Fit) -> Self {
+        Self {
+            luma: made.luma,
+            chroma: made.chroma,
+        }
+    }
+}
+
+/// A row of blocks for assemble: the terms of each in both planes. Gains and luma offsets differ from pixel to pixel.
+struct Blocks {
+    ratio: usize,
+    width: usize,
+    models: Vec<[f32; 4]>,
+    cover: Vec<u8>,
+}
+
+impl Blocks {
+    fn new(ratio: usize, planes: [&[Vec<i16>]; 2]) -> Self {
+        let width = ratio * planes[0].len();
+        let model = |at: usize| {
+            let (x, y) = (at % width, at / width);
+            let [first, second] = planes.map(|terms| {
+                let term = terms[x / ratio][y * ratio + x % ratio];
+                f32::from(term) * (ratio * ratio) as f32 / 64.0
+            });
+            [1.0 + at as f32 / 4096.0, at as f32 / 64.0, first, second]
+        };
+        Self {
+            ratio,
+            width,
+            models: (0..width * ratio).map(model).collect(),
+            cover: (7..).take(width.div_ceil(8)).collect(),
+        }
+    }
+
+    /// The layer that assemble makes.
+    fn made(&self) -> Slices {
+        let mut made = Slices::new(self.ratio, self.width / self.ratio);
+        let answer = assemble(
+            Size::new(self.width, self.ratio),
+            Ratio::try_from(self.ratio).expect("1, 2 or 4"),
+            self.models.as_flattened(),
+            &self.cover,
+            made.lent(),
+        );
+        answer.expect("no total is refused");
+        made
+    }
+
+    #[cfg(not(oracle_absent))]
+    fn rust(&self) -> Option<Slices> {
+        let model = |at: usize| {
+            let [gain, offset, first, second] = self.models[at];
+            (gain, offset, [first, second])
+        };
+        let (size, cover) = ((self.width, self.ratio), &self.cover);
+        let made = compare::oracle::layer::assemble(size, self.ratio, model, cover);
+        Some(made.into())
+    }
+
+    #[cfg(oracle_absent)]
+    fn rust(&self) -> Option<Slices> {
+        None
+    }
+}
+
+/// Terms of a block, their total and what is stored for it. At ratio 4 four terms stand apart, with nothing between.
+fn rows(ratio: usize) -> Vec<(Vec<i16>, Total)> {
+    let four: [([i16; 4], Total); 11] = [
+        ([8192, 8192, 8192, 8191], (32_767, 32_767)),
+        ([8192; 4], (32_768, 32_767)),
+        ([-8192; 4], (-32_768, -32_768)),
+        ([-8192, -8192, -8192, -8193], (-32_769, -32_768)),
+        ([5, -3, 2, 1], (5, 5)),
+        // all of the largest
+        ([32_767; 4], (131_068, 32_767)),
+        ([-32_767; 4], (-131_068, -32_768)),
+        // out of the range and back
+        ([32_767, 32_767, -32_767, -32_767], (0, 0)),
+        ([-32_767, -32_767, 32_767, 32_766], (-1, -1)),
+        ([32_767, 1, 0, -1], (32_767, 32_767)),
+        ([-32_767, -2, 1, 0], (-32_768, -32_768)),
+    ];
+    let apart = |terms: [i16; 4]| match ratio {
+        4 => terms.iter().flat_map(|&term| [0, term, 0, 0]).collect(),
+        _ => terms.to_vec(),
+    };
+    let rows = four.into_iter().map(|(terms, total)| (apart(terms), total));
+    rows.chain((ratio == 4).then(sixteen).into_iter().flatten())
+        .collect()
+}
+
+/// The same with sixteen terms.
+fn sixteen() -> Vec<(Vec<i16>, Total)> {
+    let ends = |first: i16, last: i16| [[first; 8], [last; 8]].concat();
+    let then = |each: i16, last: i16| [&[each; 15][..], &[last]].concat();
+    vec![
+        (then(2048, 2047), (32_767, 32_767)),
+        (then(2048, 2048), (32_768, 32_767)),
+        (then(-2048, -2048), (-32_768, -32_768)),
+        (then(-2048, -2049), (-32_769, -32_768)),
+        (then(32_767, 32_767), (524_272, 32_767)),
+        (then(-32_767, -32_767), (-524_272, -32_768)),
+        (ends(32_767, -32_767), (0, 0)),
+        (ends(-32_767, 32_767), (0, 0)),
+    ]
+}
+
+/// Each block by itself, in one plane; the other has small terms.
 #[test]
-fn assemble_accepts_a_partial_total_outside() {
-    for plane in [0, 1] {
-        let total = |terms: [i16; 4]| assembled(plane, terms.map(|term| f32::from(term) * STEP));
-        assert_eq!(total([32767, 32767, -32767, -32767]), Ok(0));
-        assert_eq!(total([-32767, -32767, 32767, 32766]), Ok(-1));
-        assert_eq!(total([32767, 1, 0, -1]), Ok(32767));
+fn assemble_holds_a_total() {
+    for ratio in [2, 4] {
+        let small = [vec![3; ratio * ratio]];
+        let beside = (3 * (ratio * ratio) as i64, 3 * (ratio * ratio) as i16);
+        for (terms, total) in rows(ratio) {
+            let terms = [terms];
+            let first = Blocks::new(ratio, [&terms, &small]);
+            first
+                .made()
+                .assert_right([&[total], &[beside]], first.rust());
+            let second = Blocks::new(ratio, [&small, &terms]);
+            second
+                .made()
+                .assert_right([&[beside], &[total]], second.rust());
+        }
+    }
+}
+
+/// All of them side by side, in plane 2 from the last to the first: each has its own total.
+#[test]
+fn assemble_leaves_the_neighbours_of_a_held_total() {
+    for ratio in [2, 4] {
+        let (terms, totals): (Vec<_>, Vec<_>) = rows(ratio).into_iter().unzip();
+        let backwards: Vec<_> = terms.iter().rev().cloned().collect();
+        let others: Vec<_> = totals.iter().rev().copied().collect();
+        let blocks = Blocks::new(ratio, [&terms, &backwards]);
+        blocks
+            .made()
+            .assert_right([&totals, &others], blocks.rust());
     }
 }
 
@@ -90,135 +214,156 @@ fn pixel(gain: f32) -> [f32; 6] {
     [p, i, p * p, p * i, i * i, apart]
 }
 
-/// One chroma pixel with its luma pixels: the gain that each is under, and the sums of the chroma pixel.
-struct Block<'a> {
-    side: usize,
-    gains: &'a [f32],
-    sums: [f32; 2],
+/// A row of blocks for fit, one pair of it: six sums for each luma pixel, two for each block and plane.
+struct Clip {
+    ratio: usize,
+    luma: Vec<[f32; 6]>,
+    chroma: [Vec<[f32; 2]>; 2],
 }
 
-impl Block<'_> {
-    fn luma(&self) -> Vec<[f32; 6]> {
-        self.gains.iter().map(|&gain| pixel(gain)).collect()
+impl Clip {
+    fn new(ratio: usize, gains: &[f32], chroma: [Vec<[f32; 2]>; 2]) -> Self {
+        Self {
+            ratio,
+            luma: gains.iter().map(|&gain| pixel(gain)).collect(),
+            chroma,
+        }
     }
 
-    /// One pair, with the sums in both planes.
-    fn part<'a>(&'a self, luma: &'a [[f32; 6]]) -> Part<'a> {
+    fn blocks(&self) -> usize {
+        self.chroma[0].len()
+    }
+
+    fn size(&self) -> Size {
+        Size::new(self.ratio * self.blocks(), self.ratio)
+    }
+
+    fn part(&self) -> Part<'_> {
+        let [first, second] = &self.chroma;
         Part {
-            luma: luma.as_flattened(),
-            chroma: [&self.sums, &self.sums],
+            luma: self.luma.as_flattened(),
+            chroma: [first.as_flattened(), second.as_flattened()],
             pairs: 1,
         }
     }
 
-    /// The total that fit stores in plane 1 or 2 (`plane` 0 or 1), which has the sums; the other has zeros.
-    fn fitted(&self, plane: usize) -> Result<i16, Refusal> {
-        let (side, luma) = (self.side, self.luma());
-        let mut chroma = [[0.0; 2]; 2];
-        chroma[plane] = self.sums;
-        let own = Part {
-            luma: luma.as_flattened(),
-            chroma: [&chroma[0], &chroma[1]],
-            pairs: 1,
-        };
-        let mut made = Outputs::new(side, side);
+    /// The layer that fit makes.
+    fn made(&self) -> Slices {
+        let (mut made, size) = (Slices::new(self.ratio, self.blocks()), self.size());
+        let pixels = self.luma.len();
         let work = Work {
-            models: &mut vec![0.0; 4 * side * side],
-            kept: &mut vec![0; side * side],
-            cover: &mut [0],
+            models: &mut vec![0.0; 4 * pixels],
+            kept: &mut vec![0; pixels],
+            cover: &mut vec![0; size.cells()],
         };
         let settings = Settings {
             evidence: 0.0,
             ..Settings::default()
         };
-        let answer = fit(
-            Parts::alone(own),
-            Size::new(side, side),
-            Ratio::try_from(side).expect("a side of 1, 2 or 4"),
-            settings,
-            work,
-            made.lent(),
-        );
-        assert_eq!(answer.is_err(), made.unchanged());
-        answer
-            .map(|()| {
-                self.compare(&made, chroma);
-                made.chroma[plane][0]
-            })
-            .map_err(|error| error.refusal())
+        let ratio = Ratio::try_from(self.ratio).expect("1, 2 or 4");
+        let parts = Parts::alone(self.part());
+        let answer = fit(parts, size, ratio, settings, work, made.lent());
+        answer.expect("no total is refused");
+        made
     }
 
-    /// Whether the Rust, whose release build wraps partial totals, stores the same.
     #[cfg(not(oracle_absent))]
-    fn compare(&self, made: &Outputs, chroma: [[f32; 2]; 2]) {
+    fn rust(&self) -> Option<Slices> {
         use compare::oracle::layer as rust;
-        let own = rust::Stats::from_raw(self.luma(), chroma.map(|sums| vec![sums]), 2.0);
-        let side = self.side;
-        let right = rust::fit(
-            [None, Some(&own), None],
-            (side, side),
-            6.0,
-            0.0,
-            false,
-            side,
-        );
-        let right = right.expect("an own part");
-        assert_eq!((&made.luma, &made.chroma), (&right.luma, &right.chroma));
+        let own = rust::Stats::from_raw(self.luma.clone(), self.chroma.clone(), 2.0);
+        let size = (self.size().width, self.size().height);
+        let made = rust::fit([None, Some(&own), None], size, 6.0, 0.0, false, self.ratio);
+        made.map(Slices::from)
     }
 
     #[cfg(oracle_absent)]
-    fn compare(&self, _: &Outputs, _: [[f32; 2]; 2]) {}
-}
-
-/// With a first sum of 0 and one pair, the chroma offset is half the second sum, whatever the gain.
-fn even(side: usize, gains: &[f32], term: i16) -> Block<'_> {
-    let offset = f32::from(term) * (side * side) as f32 / 64.0;
-    Block {
-        side,
-        gains,
-        sums: [0.0, 2.0 * offset],
+    fn rust(&self) -> Option<Slices> {
+        None
     }
 }
 
-#[test]
-fn fit_accepts_the_ends_and_refuses_the_next() {
-    let four = [0.5; 4];
-    // seven lettered pixels of sixteen: 7 times 4681 is 32767
-    let mut seven = [1.0; 16];
-    seven[..7].fill(0.5);
-    for plane in [0, 1] {
-        assert_eq!(even(2, &four, -8192).fitted(plane), Ok(-32768));
-        assert_eq!(even(4, &seven, 4681).fitted(plane), Ok(32767));
-        assert_eq!(
-            even(2, &four, 8192).fitted(plane),
-            Err(Refusal::ChromaTotal)
-        );
-        assert_eq!(
-            even(2, &four, -8193).fitted(plane),
-            Err(Refusal::ChromaTotal)
-        );
-        assert_eq!(even(1, &[0.5], 32767).fitted(plane), Ok(32767));
-    }
+/// The sums for a term: with a first sum of 0 and one pair, a chroma offset is half the second sum, whatever the gain.
+fn sums(term: i16, ratio: usize) -> [f32; 2] {
+    let offset = f32::from(term) * (ratio * ratio) as f32 / 64.0;
+    [0.0, 2.0 * offset]
+}
+
+/// One block, in which so many pixels from the first are lettered; a term for each plane.
+fn lettered(ratio: usize, pixels: usize, terms: [i16; 2]) -> Clip {
+    let mut gains = vec![1.0; ratio * ratio];
+    gains[..pixels].fill(0.5);
+    Clip::new(ratio, &gains, terms.map(|term| vec![sums(term, ratio)]))
 }
 
 #[test]
-fn fit_accepts_a_partial_total_outside() {
-    // gain 0.5 adds above 16384 at each pixel, gain 1.5 takes nearly as much away
-    let sums = [5600.0, 5600.0];
-    for plane in [0, 1] {
-        let above = Block {
-            side: 2,
-            gains: &[0.5, 0.5, 1.0, 1.0],
-            sums,
+fn fit_holds_a_total() {
+    let right: [(usize, usize, i16, Total); 13] = [
+        (1, 1, 32_767, (32_767, 32_767)),
+        (2, 1, 32_767, (32_767, 32_767)),
+        (2, 4, 8192, (32_768, 32_767)),
+        (2, 4, -8192, (-32_768, -32_768)),
+        (2, 3, -10_923, (-32_769, -32_768)),
+        (2, 4, 32_767, (131_068, 32_767)),
+        (2, 4, -32_767, (-131_068, -32_768)),
+        (4, 7, 4681, (32_767, 32_767)),
+        (4, 16, 2048, (32_768, 32_767)),
+        (4, 16, -2048, (-32_768, -32_768)),
+        (4, 9, -3641, (-32_769, -32_768)),
+        (4, 16, 32_767, (524_272, 32_767)),
+        (4, 16, -32_767, (-524_272, -32_768)),
+    ];
+    for (ratio, pixels, term, total) in right {
+        let beside = (7 * pixels as i64, 7 * pixels as i16);
+        let first = lettered(ratio, pixels, [term, 7]);
+        first
+            .made()
+            .assert_right([&[total], &[beside]], first.rust());
+        let second = lettered(ratio, pixels, [7, term]);
+        second
+            .made()
+            .assert_right([&[beside], &[total]], second.rust());
+    }
+}
+
+/// Five blocks of lettering: what is held has neighbours that are not.
+#[test]
+fn fit_leaves_the_neighbours_of_a_held_total() {
+    for ratio in [2, 4] {
+        let pixels = (ratio * ratio) as i16;
+        let full = 32_768 / i32::from(pixels);
+        let terms = [1, full, -5, -full - 1, 9].map(|term| term as i16);
+        let totals: Vec<Total> = terms
+            .iter()
+            .map(|term| i64::from(*term) * i64::from(pixels))
+            .zip([pixels, i16::MAX, -5 * pixels, i16::MIN, 9 * pixels])
+            .collect();
+        let backwards: Vec<Total> = totals.iter().rev().copied().collect();
+        let chroma = terms.map(|term| sums(term, ratio)).to_vec();
+        let other = chroma.iter().rev().copied().collect();
+        let clip = Clip::new(ratio, &vec![0.5; 5 * ratio * ratio], [chroma, other]);
+        clip.made().assert_right([&totals, &backwards], clip.rust());
+    }
+}
+
+/// Gain 0.5 adds to the total, gain 1.5 takes nearly as much away, and gain 1 is no lettering.
+#[test]
+fn fit_sums_a_total_whole() {
+    for ratio in [2, 4] {
+        let half = ratio * ratio / 2;
+        let clip = |first: f32, last: f32| {
+            let gains = [vec![first; half], vec![last; half]].concat();
+            Clip::new(ratio, &gains, [vec![[5600.0; 2]], vec![[2.0; 2]]])
         };
-        assert_eq!(above.fitted(plane), Err(Refusal::ChromaTotal));
-        let both = Block {
-            side: 2,
-            gains: &[0.5, 0.5, 1.5, 1.5],
-            sums,
-        };
-        let total = both.fitted(plane).expect("the whole total fits");
-        assert!(total.abs() < 100);
+        for (first, last) in [(0.5, 1.5), (1.5, 0.5)] {
+            let clip = clip(first, last);
+            let made = clip.made();
+            let totals = [0, 1].map(|plane| made.chroma[plane][0]);
+            assert!(totals[0].abs() < 100, "{totals:?}");
+            let [first, second] = totals.map(|stored| (i64::from(stored), stored));
+            made.assert_right([&[first], &[second]], clip.rust());
+        }
+        assert_eq!(clip(0.5, 1.0).made().chroma[0][0], 32_767);
+        assert_eq!(clip(1.5, 1.0).made().chroma[0][0], -32_768);
     }
 }
 
@@ -231,25 +376,25 @@ fn between<'a>(previous: Part<'a>, own: Part<'a>, next: Part<'a>) -> Parts<'a> {
     }
 }
 
+/// A fit of 2 by 2 pixels that is refused: no lent slice is changed.
+fn refuses(right: Refusal, parts: Parts<'_>, size: Size, ratio: Ratio, settings: Settings) {
+    let (mut models, mut kept, mut cover) = ([0.25; 16], [9; 4], [8]);
+    let work = Work {
+        models: &mut models,
+        kept: &mut kept,
+        cover: &mut cover,
+    };
+    let mut made = Slices::new(2, 1);
+    let answer = fit(parts, size, ratio, settings, work, made.lent());
+    assert!(made.unchanged());
+    assert_eq!((models, kept, cover), ([0.25; 16], [9; 4], [8]));
+    assert_eq!(answer.expect_err("a refusal").refusal(), right);
+}
+
 #[test]
-fn a_refusal_but_8_leaves_the_work_slices() {
-    let block = even(2, &[0.5; 4], 1);
-    let luma = block.luma();
-    let own = block.part(&luma);
-    let refuses =
-        |right: Refusal, parts: Parts<'_>, size: Size, ratio: Ratio, settings: Settings| {
-            let (mut models, mut kept, mut cover) = ([0.25; 16], [9; 4], [8]);
-            let work = Work {
-                models: &mut models,
-                kept: &mut kept,
-                cover: &mut cover,
-            };
-            let mut made = Outputs::new(2, 2);
-            let answer = fit(parts, size, ratio, settings, work, made.lent());
-            assert!(made.unchanged());
-            assert_eq!((models, kept, cover), ([0.25; 16], [9; 4], [8]));
-            assert_eq!(answer.expect_err("a refusal").refusal(), right);
-        };
+fn a_refusal_leaves_the_work_slices() {
+    let clip = lettered(2, 4, [1, 1]);
+    let own = clip.part();
     let (square, settings) = (Size::new(2, 2), Settings::default());
     let alone = Parts::alone(own);
     let none = Part { pairs: 0, ..own };
@@ -287,9 +432,8 @@ fn a_refusal_but_8_leaves_the_work_slices() {
 /// To C a part of no pairs is an absent one.
 #[test]
 fn absent_neighbours_are_not_looked_at() {
-    let block = even(2, &[0.5; 4], 100);
-    let luma = block.luma();
-    let own = block.part(&luma);
+    let clip = lettered(2, 4, [100, 100]);
+    let own = clip.part();
     let odd = [f32::NAN; 5];
     let absent = Part {
         luma: &odd,
@@ -311,4 +455,30 @@ fn absent_neighbours_are_not_looked_at() {
     let right = layer(ABSENT);
     assert_eq!(right.0, 0);
     assert_eq!(layer(absent), right);
+}
+
+/// The number of a refused total is gone.
+#[cfg(not(oracle_absent))]
+#[test]
+fn no_call_answers_8() {
+    let calls = compare::check::CALLS;
+    assert!(calls.iter().all(|call| !call.numbers.contains(&8)));
+}
+
+/// Over every seed of the differential run there are entries that are left out, in each way, and far more that are not.
+#[cfg(not(oracle_absent))]
+#[test]
+fn entries_are_left_out_over_every_seed() {
+    use compare::check::run::{named, seeds, Until};
+
+    for seed in seeds() {
+        for call in named("assemble,fit").expect("two calls") {
+            let tally = call.run(seed, Until::Cases(5000)).expect("no difference");
+            let entries = tally.entries;
+            let ways = [entries.above, entries.below, entries.back];
+            let place = format!("{}, seed {seed}: {entries:?}", call.name);
+            assert!(!ways.contains(&0), "{place}");
+            assert!(entries.compared > 5 * entries.left_out(), "{place}");
+        }
+    }
 }

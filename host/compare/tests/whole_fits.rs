@@ -17,8 +17,10 @@ fn whole_fits_are_the_rusts() {
         for ratio in [1, 2, 4] {
             let mut rng = Rng::of(seed, "whole fits", (4 * kind + ratio) as u64);
             let compared = compare(&Fit::of_kind(&mut rng, (1920, 1080, ratio), kind));
-            let answer = compared.answer;
-            note(&format!("whole fit, kind {kind}, ratio {ratio}: {answer}"));
+            let (answer, entries) = (compared.answer, compared.entries.tail());
+            note(&format!(
+                "whole fit, kind {kind}, ratio {ratio}: {answer}{entries}"
+            ));
             assert_eq!(compared.difference, None);
         }
     }

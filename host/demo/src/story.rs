@@ -61,7 +61,7 @@ fn parts(clip: &Clip) -> Result<Parts, Error> {
 }
 
 /// The layers at the first and at the second figure.
-fn fits(parts: &Parts, options: &Options) -> Result<[LayerBuf; 2], String> {
+fn fits(parts: &Parts, options: &Options) -> Result<[LayerBuf; 2], Error> {
     let [high, low] = options.evidence;
     let most = most_evidence(options.frames);
     let name = format!("fitting at evidence figure {high}, then at {low}");
@@ -72,13 +72,7 @@ fn fits(parts: &Parts, options: &Options) -> Result<[LayerBuf; 2], String> {
          passed is lost."
     );
     step(&name, &about);
-    let fit = |figure: f32| parts.fit(figure).map_err(|error| refused(figure, &error));
-    Ok([fit(high)?, fit(low)?])
-}
-
-/// What to do where the library refuses a fit: of few comparisons a low figure takes dots that cannot be stored.
-fn refused(figure: f32, error: &Error) -> String {
-    format!("at evidence figure {figure}, {error}. In this demo, try a higher --lower, or more --frames")
+    Ok([parts.fit(high)?, parts.fit(low)?])
 }
 
 /// The layer as it is read at another desk, where the lettering is lifted.
@@ -192,24 +186,5 @@ impl Kept {
             changed: changed.clone().count(),
             same: same.count(),
         }
-    }
-}
-
-#[cfg(test)]
-mod tests {
-    use super::*;
-    use safeteal::{Ratio, Settings, Sums};
-
-    #[test]
-    fn a_refused_fit_says_the_figure_and_what_to_do() {
-        let sums = Sums::new(Size::new(8, 8), Ratio::One).expect("small sums");
-        let error = LayerBuf::fit(None, &sums, None, Settings::default());
-        let words = refused(7.0, &error.expect_err("no pair was added"));
-        assert!(words.starts_with("at evidence figure 7, "), "{words}");
-        assert!(words.contains("refused (7)"), "{words}");
-        assert!(
-            words.ends_with("try a higher --lower, or more --frames"),
-            "{words}"
-        );
     }
 }

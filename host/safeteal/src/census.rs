@@ -59,14 +59,14 @@ pub struct Passed {
 /// assert_eq!(census.at(8.5)?.dots, 0);
 /// assert_eq!(census.highest(48), Some(8.0));
 /// for (figure, passed) in census.iter() {
-///     println!("at {figure}: {} dots", passed?.dots);
+///     println!("at {figure}: {} dots", passed.dots);
 /// }
 /// # Ok::<(), safeteal::Error>(())
 /// ```
-#[derive(Clone, Debug, PartialEq)]
+#[derive(Clone, Debug, PartialEq, Eq)]
 pub struct Census {
     /// What passes at figure 0, 1, 2 and so on. The last is the lowest figure that no pixel's evidence reaches.
-    rows: Vec<Result<Passed>>,
+    rows: Vec<Passed>,
 }
 
 impl Census {
@@ -74,8 +74,7 @@ impl Census {
     /// looked at.
     ///
     /// # Errors
-    /// As [`LayerBuf::fit`], but for `Refusal::ChromaTotal`: that depends on the figure, and stands in the figure's
-    /// row.
+    /// As [`LayerBuf::fit`].
     pub fn of(
         previous: Option<&Sums>,
         own: &Sums,
@@ -86,32 +85,28 @@ impl Census {
         let mut desk = Desk::new(parts, own.size(), own.ratio(), settings)?;
         let mut rows = Vec::new();
         for figure in occurring(parts) {
-            let passed = match desk.passed(figure as f32) {
-                Err(error) if error.refusal() != Refusal::ChromaTotal => return Err(error),
-                passed => passed,
-            };
-            rows.resize(figure + 1, passed);
+            rows.resize(figure + 1, desk.passed(figure as f32)?);
         }
-        rows.push(Ok(Passed::default()));
+        rows.push(Passed::default());
         Ok(Self { rows })
     }
 
     /// What passes at an evidence figure.
     ///
     /// # Errors
-    /// `Refusal::Setting` for a figure outside 0 to 65,536; `Refusal::ChromaTotal` where fit refuses this figure.
+    /// `Refusal::Setting` for a figure outside 0 to 65,536.
     pub fn at(&self, figure: f32) -> Result<Passed> {
         let call = "Census::at";
         Error::first(call, &[Refusal::Setting], |search| {
             search.setting("evidence", figure, [0.0, 65_536.0])
         })?;
         let whole = figure.ceil() as usize;
-        self.rows[whole.min(self.rows.len() - 1)]
+        Ok(self.rows[whole.min(self.rows.len() - 1)])
     }
 
     /// Each whole figure from 0 on, with what passes at it. At the last one and at all higher ones nothing passes,
     /// since no pixel's evidence reaches it.
-    pub fn iter(&self) -> impl Iterator<Item = (f32, Result<Passed>)> + '_ {
+    pub fn iter(&self) -> impl Iterator<Item = (f32, Passed)> + '_ {
         let rows = self.rows.iter().enumerate();
         rows.map(|(figure, &passed)| (figure as f32, passed))
     }
@@ -119,24 +114,17 @@ impl Census {
     /// The highest whole figure at which at least so many dots pass; none where they never do.
     #[must_use]
     pub fn highest(&self, dots: usize) -> Option<f32> {
-        let enough = |passed: &Result<Passed>| passed.is_ok_and(|passed| passed.dots >= dots);
-        self.rows
-            .iter()
-            .rposition(enough)
-            .map(|figure| figure as f32)
+        let mut rows = self.rows.iter();
+        let highest = rows.rposition(|passed| passed.dots >= dots);
+        highest.map(|figure| figure as f32)
     }
 }
 
 /// A line for each whole figure: `24: 48 dots, 48 peeled`.
 impl fmt::Display for Census {
     fn fmt(&self, f: &mut fmt::Formatter<'_>) -> fmt::Result {
-        for (figure, passed) in self.iter() {
-            match passed {
-                Ok(Passed { dots, peeled }) => {
-                    writeln!(f, "{figure}: {dots} dots, {peeled} peeled")?
-                }
-                Err(error) => writeln!(f, "{figure}: {error}")?,
-            }
+        for (figure, Passed { dots, peeled }) in self.iter() {
+            writeln!(f, "{figure}: {dots} dots, {peeled} peeled")?;
         }
         Ok(())
     }

@@ -6,12 +6,10 @@ use crate::{Refusal, Size, Sums};
 
 mod parcel;
 mod search;
-mod total;
 mod unlike;
 mod why;
 use parcel::Flaw;
 pub(crate) use search::Search;
-use total::Total;
 use unlike::Unlike;
 use why::many;
 pub(crate) use why::Why;
@@ -19,8 +17,7 @@ pub(crate) use why::Why;
 /// What a call gives: its answer, or why it was refused.
 pub type Result<T, E = Error> = std::result::Result<T, E>;
 
-/// A refused call. It has changed none of the slices lent to it (the work slices of [`fit`](crate::fit) after
-/// [`Refusal::ChromaTotal`] excepted).
+/// A refused call. It has changed none of the slices lent to it.
 ///
 /// ```
 /// use safeteal::{mask, Limits, Plane, Refusal, Size};
@@ -143,7 +140,6 @@ pub(crate) enum Fault {
     Pitches(usize, usize),
     StepAcross(usize, usize),
     StepDown(usize, usize, usize),
-    Total(Total),
     Parcel(Flaw),
 }
 
@@ -184,7 +180,6 @@ impl fmt::Display for Fault {
                 "the mask has {} and must have rows of {across}: 1 to 8 times {height}, the plane's height, of them",
                 many(length, "byte")
             ),
-            Fault::Total(total) => total.fmt(f),
             Fault::Parcel(flaw) => flaw.fmt(f),
         }
     }

@@ -131,13 +131,20 @@ pub(crate) type Shape = (Size, Ratio);
 
 numbered! {
     /// One of a frame's three planes.
+    ///
+    /// ```
+    /// use safeteal::Channel;
+    ///
+    /// let names: Vec<String> = Channel::ALL.iter().map(ToString::to_string).collect();
+    /// assert_eq!(names, ["luma", "chroma1", "chroma2"]);
+    /// ```
     pub enum Channel: usize {
         /// Plane 0.
-        Luma = 0,
+        Luma = 0 => "luma",
         /// Plane 1.
-        Chroma1 = 1,
+        Chroma1 = 1 => "chroma1",
         /// Plane 2.
-        Chroma2 = 2,
+        Chroma2 = 2 => "chroma2",
     }
 }
 

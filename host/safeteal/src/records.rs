@@ -11,17 +11,17 @@ numbered! {
     /// What the payload of a record is.
     pub enum Kind: u16 {
         /// Width, height and ratio.
-        Head = 1,
+        Head = 1 => "head",
         /// The gains of luma.
-        Gains = 2,
+        Gains = 2 => "luma gains",
         /// The offsets of luma.
-        Offsets = 3,
+        Offsets = 3 => "luma offsets",
         /// The offsets of plane 1.
-        Chroma1 = 4,
+        Chroma1 = 4 => "chroma1 offsets",
         /// The offsets of plane 2.
-        Chroma2 = 5,
+        Chroma2 = 5 => "chroma2 offsets",
         /// The distances of the cells.
-        Cells = 6,
+        Cells = 6 => "cells",
     }
 }
 
@@ -40,19 +40,6 @@ impl Kind {
             Kind::Cells => size.cells(),
         };
         numbers.saturating_mul(2)
-    }
-}
-
-impl fmt::Display for Kind {
-    fn fmt(&self, f: &mut fmt::Formatter<'_>) -> fmt::Result {
-        f.write_str(match self {
-            Kind::Head => "head",
-            Kind::Gains => "luma gains",
-            Kind::Offsets => "luma offsets",
-            Kind::Chroma1 => "chroma1 offsets",
-            Kind::Chroma2 => "chroma2 offsets",
-            Kind::Cells => "cells",
-        })
     }
 }
 

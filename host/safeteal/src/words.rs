@@ -1,8 +1,8 @@
-//! Sizes, planes and ratios in words, and sizes from pairs of numbers.
+//! Sizes and ratios in words, and sizes from pairs of numbers.
 
 use std::fmt;
 
-use crate::{Channel, Ratio, Size};
+use crate::{Ratio, Size};
 
 /// ```
 /// use safeteal::Size;
@@ -32,22 +32,6 @@ impl From<Size> for (usize, usize) {
     /// Width, then height.
     fn from(Size { width, height }: Size) -> Self {
         (width, height)
-    }
-}
-
-/// ```
-/// use safeteal::Channel;
-///
-/// let names: Vec<String> = Channel::ALL.iter().map(ToString::to_string).collect();
-/// assert_eq!(names, ["luma", "chroma1", "chroma2"]);
-/// ```
-impl fmt::Display for Channel {
-    fn fmt(&self, f: &mut fmt::Formatter<'_>) -> fmt::Result {
-        f.pad(match self {
-            Channel::Luma => "luma",
-            Channel::Chroma1 => "chroma1",
-            Channel::Chroma2 => "chroma2",
-        })
     }
 }
 

@@ -3,7 +3,7 @@
 use safeteal::{
     apply, assemble, distances, fit, hold, mask, stats, Channel, Error, Frame, Frames, Layer,
     LayerBuf, LayerBytes, LayerMut, Limits, Mask, Motion, MotionBuf, Pair, Part, Parts, Plane,
-    PlaneMut, Ratio, Refusal, Settings, Size, Sums, Work,
+    PlaneMut, Ratio, Settings, Size, Sums, Work,
 };
 
 /// Luma of the calls here, and chroma at ratio 2.
@@ -327,18 +327,21 @@ fn part(luma: usize, pairs: usize) -> Part<'static> {
     }
 }
 
-/// The words of a fit with a work slice of so many bytes.
+/// The words of a fit with a work slice of so many bytes. It leaves its work slices as they were.
 fn unfitted(parts: Parts<'_>, settings: Settings, kept: usize) -> String {
+    let (mut models, mut kept, mut cover) = ([3.0; 32], vec![4; kept], [5]);
     let work = Work {
-        models: &mut [0.0; 32],
-        kept: &mut vec![0; kept],
-        cover: &mut [0],
+        models: &mut models,
+        kept: &mut kept,
+        cover: &mut cover,
     };
     let layer = LayerMut {
         luma: &mut [0; 16],
         chroma: [&mut [0; 4], &mut [0; 4]],
     };
-    said(fit(parts, SIZE, Ratio::Two, settings, work, layer))
+    let words = said(fit(parts, SIZE, Ratio::Two, settings, work, layer));
+    assert!(models == [3.0; 32] && kept.iter().all(|&byte| byte == 4) && cover == [5]);
+    words
 }
 
 #[test]
@@ -449,64 +452,5 @@ fn of_assemble() {
     assert_eq!(
         words(&FLOATS[..32], &[0, 0]),
         "assemble refused (4): `cover` has 2 bytes and must have exactly 1: 1 for each 8 by 8 cell of 4 by 2 pixels"
-    );
-}
-
-/// Number 8 names the plane, the pixel and the total that cannot be stored.
-#[test]
-fn of_totals() {
-    let mut models = [[1.0, 0.0, 0.0, 0.0]; 8];
-    let words = |models: &[[f32; 4]; 8]| {
-        let models = models.as_flattened();
-        said(LayerBuf::assemble(SIZE, Ratio::Two, models, &[0]))
-    };
-    // The right chroma pixel has luma's pixels 2, 3, 6 and 7: four times 4096 / 4 * 64, held to 32767.
-    for at in [2, 3, 6, 7] {
-        models[at][3] = 4096.0;
-    }
-    assert_eq!(
-        words(&models),
-        "LayerBuf::assemble refused (8): the offsets at pixel (1, 0) of chroma2 come to 131068 in 64ths and must \
-         come to -32768 to 32767: the colour cast is too strong to be stored; give smaller offsets"
-    );
-    models[0][2] = -4096.0;
-    models[1][2] = -1.0;
-    assert!(words(&models).contains("at pixel (0, 0) of chroma1 come to -32783 in 64ths"));
-}
-
-/// The same after a fit, which leaves its models in the work slice.
-#[test]
-fn of_totals_that_are_fitted() {
-    // A lettered pixel of gain 0.5 that shows 0 and then 200, and a chroma pixel whose offset is half its second sum.
-    let pixel = [200.0, 100.0, 40_000.0, 20_000.0, 10_000.0, 1.0];
-    let luma = [pixel; 8];
-    let (none, cast) = ([0.0; 4], [0.0, 0.0, 0.0, 1024.0]);
-    let own = Part {
-        luma: luma.as_flattened(),
-        chroma: [&none, &cast],
-        pairs: 1,
-    };
-    let settings = Settings {
-        evidence: 0.0,
-        ..Settings::default()
-    };
-    let work = Work {
-        models: &mut [0.0; 32],
-        kept: &mut [0; 8],
-        cover: &mut [0],
-    };
-    let layer = LayerMut {
-        luma: &mut [0; 16],
-        chroma: [&mut [0; 4], &mut [0; 4]],
-    };
-    let error = fit(Parts::alone(own), SIZE, Ratio::Two, settings, work, layer).unwrap_err();
-    assert_eq!(
-        (error.refusal(), error.call()),
-        (Refusal::ChromaTotal, "fit")
-    );
-    assert_eq!(
-        error.to_string(),
-        "fit refused (8): the offsets at pixel (1, 0) of chroma2 come to 32768 in 64ths and must come to -32768 to \
-         32767: the colour cast is too strong to be stored; fit with another evidence figure or another limit"
     );
 }

@@ -214,7 +214,7 @@ fn there_are_no_other_declarations() {
     assert_eq!(files, [package().join("src/ffi.rs")]);
 }
 
-/// The enum of the header, name by name: `Refusal`'s, in C's letters, and acceptance.
+/// The enum of the header, name by name: `Refusal`'s, in capitals, and acceptance.
 #[test]
 fn the_refusals_have_the_numbers_of_the_library() {
     let text = written();
@@ -232,7 +232,7 @@ fn the_refusals_have_the_numbers_of_the_library() {
         .collect();
     let accepted = ("SAFETEAL_ACCEPTED".to_owned(), 0);
     let refused = Refusal::ALL.iter().map(|refusal| {
-        let name = in_capitals(&format!("{refusal:?}"));
+        let name = format!("{refusal:?}").to_uppercase();
         (format!("SAFETEAL_REFUSED_{name}"), refusal.number())
     });
     let expected: Vec<(String, u8)> = [accepted].into_iter().chain(refused).collect();
@@ -240,18 +240,6 @@ fn the_refusals_have_the_numbers_of_the_library() {
     for (name, _) in listed {
         assert!(text.contains(&format!("case {name}:")), "words for {name}");
     }
-}
-
-/// `ChromaTotal` as `CHROMA_TOTAL`.
-fn in_capitals(name: &str) -> String {
-    let mut made = String::new();
-    for letter in name.chars() {
-        if letter.is_uppercase() && !made.is_empty() {
-            made.push('_');
-        }
-        made.extend(letter.to_uppercase());
-    }
-    made
 }
 
 #[test]

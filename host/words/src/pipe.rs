@@ -36,8 +36,10 @@ pub fn note(text: &str) {
 pub fn unread() -> Stdio {
     let mut gone = Command::new("true");
     let mut gone = gone.stdin(Stdio::piped()).spawn().expect("`true`");
-    let pipe = gone.stdin.take().expect("its pipe");
+    let mut pipe = gone.stdin.take().expect("its pipe");
     gone.wait().expect("its end");
+    // A process that another test forks holds the reading end as well, until its program runs.
+    while pipe.write(&[0]).is_ok() {}
     pipe.into()
 }
 

@@ -8,8 +8,8 @@ use Rattle.assemble.proofs.assemble.Tie as tie
 returns : tie.Need-returns
 returns c = refused _ _ _ _ _ _ _ _ _ (c .before .refusal .ensures) (c .if1 .taken)
 
-assembled-requires : tie.Need-assembled-requires
-assembled-requires c κs =
+store-requires : tie.Need-store-requires
+store-requires c κs =
     let g = c .before .before .before in
     let t = g .before in
     rw (g .sizes-of .ensures) (ready _ _ _ _ _ _ _ _ (sym (t .before .refusal .ensures) ∙ t .if1 .left))
@@ -19,11 +19,11 @@ returns-2 c =
     let d = c .before .before .before in
     let g = d .before .before .before .before in
     let t = g .before in
-    ran _ _ _ _ _ _ _ _ (sym (t .before .refusal .ensures) ∙ t .if1 .left) _ _ _ _ (rw (g .sizes-of .ensures) at (d .assembled .ensures))
+    ran _ _ _ _ _ _ _ _ (sym (t .before .refusal .ensures) ∙ t .if1 .left) _ _ _ (rw (g .sizes-of .ensures) at (d .store .ensures))
 
 pub assemble-spec : {M : Type 1} → statement M
 assemble-spec =
     tie.close
     (tie.spec (λ c κs. search needs) (λ c. search needs) (λ c. search needs) (λ c. search needs) returns
-    (λ c κs. search needs) assembled-requires (λ c. search needs) (λ c. search needs) (λ c. search needs)
+    (λ c κs. search needs) store-requires (λ c. search needs) (λ c. search needs) (λ c. search needs)
     returns-2)

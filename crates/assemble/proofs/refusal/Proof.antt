@@ -1,11 +1,11 @@
 -- `assemble::refusal` meets its contract. Assumes nothing.
-use Rattle.rules.specs.Refusals.{firstFitting, assembleTable}
+use Rattle.rules.specs.Refusals.{firstFitting, assembleRefusal}
 use borrow.Author.Needs.{needs}
 use Rattle.assemble.proofs.refusal.Statement.{statement}
 use Rattle.assemble.proofs.refusal.Tie as tie
 
 returns : tie.Need-returns
-unfolding firstFitting assembleTable
+unfolding firstFitting assembleRefusal
 returns c =
     let tests = c .before .before .before .before .before in
     let lengths = tests .before .before in

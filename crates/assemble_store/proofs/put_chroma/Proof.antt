@@ -3,25 +3,17 @@ use borrow.Author.Needs.{needs}
 use mathlib.Core.Path.{_∙_}
 use native.Mathlib.Nat.{add-zero}
 use native.Mathlib.Omega.{arith}
-use mir.Facts.{toZ-ofZ}
-use mir.Syntax.{w16, w32}
+use mir.Syntax.{w16}
 use Rattle.laws.proofs.Signed.{back}
+use Rattle.assemble_offsets.proofs.Signed.{total-back}
 use Rattle.assemble_store.specs.Entries.{modelsOf}
-use Rattle.assemble_store.proofs.Chroma.{point-in, first-is, second-is, total-fits}
+use Rattle.assemble_store.proofs.Chroma.{point-in, first-is, second-is}
 use Rattle.assemble_store.proofs.put_chroma.Statement.{statement}
 use Rattle.assemble_store.proofs.put_chroma.Tie as tie
 
 -- where the function starts
-abbrev start : tie.After-chroma-total → tie.Start
+abbrev start : tie.After-stored-total → tie.Start
 start c = c .before .before .before .before .before
-
--- the total can be stored
-cast-total : tie.Need-cast-total
-cast-total c =
-    let s = start c in
-    let a = s .args in
-    rw (back w32 (c .chroma-total .result) (c .chroma-total .ok), c .chroma-total .ensures)
-    (total-fits (a .sizes) (a .models .now) (a .cover .now) (a .plane) (a .x) (a .y) (s .pre .0) (s .pre .2))
 
 put-pair-requires : tie.Need-put-pair-requires
 put-pair-requires c κs =
@@ -35,20 +27,17 @@ returns : tie.Need-returns
 returns c =
     let told = c .before .before .before .before in
     let t = told .before in
-    let total = t .chroma-total in
+    let offset = t .stored-total in
     let tail = told .tail in
     let s = start t in
     let a = s .args in
     let b = s .pre .2 in
     let models = modelsOf (a .models .now) (a .sizes) in
-    let fits = rw (back w32 (total .result) (total .ok)) at (cast-total t) in
     c .before .put-pair .ensures
     ∙ rw (
-      back w32 (total .result) (total .ok),
-      toZ-ofZ fits,
-      toZ-ofZ fits,
+      offset .ensures,
+      total-back _,
       back w16 (tail .result) (tail .ok),
-      total .ensures,
       tail .ensures,
       t .before .place2 .ensures,
       t .before .before .place .ensures,
@@ -62,5 +51,5 @@ returns c =
 pub put-chroma-spec : {M : Type 1} → statement M
 put-chroma-spec =
     tie.close
-    (tie.spec (λ c κs. search needs) (λ c κs. search needs) (λ c κs. search needs) cast-total
-    (λ c κs. search needs) put-pair-requires (λ c. search needs) returns)
+    (tie.spec (λ c κs. search needs) (λ c κs. search needs) (λ c κs. search needs) (λ c κs. search needs)
+    put-pair-requires (λ c. search needs) returns)

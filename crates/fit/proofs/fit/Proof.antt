@@ -20,8 +20,8 @@ fitted-requires c κs =
     let a = start (t .before) .args in
     rw (g .sizes-of .ensures) (asks (a .sums) (a .numbers) _ _ _ _ _ _ (sym (t .before .refusal .ensures) ∙ t .if1 .left))
 
-assembled-requires : tie.Need-assembled-requires
-assembled-requires c κs =
+store-requires : tie.Need-store-requires
+store-requires c κs =
     let lent = c .before .before .before .before in
     let stored = lent .before .before .before .before in
     let ran = stored .before .before .before in
@@ -42,12 +42,12 @@ returns-2 c =
     let g = called .before .before .before .before in
     let t = g .before in
     let a = start (t .before) .args in
-    ran (a .sums) (a .numbers) _ _ _ _ _ _ (sym (t .before .refusal .ensures) ∙ t .if1 .left) _ _ _ (rw (g .sizes-of .ensures) at (made .fitted .ensures)) _ _ _ _ (rw (g .sizes-of .ensures) at (told .assembled .ensures))
+    ran (a .sums) (a .numbers) _ _ _ _ _ _ (sym (t .before .refusal .ensures) ∙ t .if1 .left) _ _ _ (rw (g .sizes-of .ensures) at (made .fitted .ensures)) _ _ _ (rw (g .sizes-of .ensures) at (told .store .ensures))
 
 pub fit-spec : {M : Type 1} → statement M
 fit-spec =
     tie.close
     (tie.spec (λ c κs. search needs) (λ c. search needs) (λ c. search needs) (λ c. search needs) (λ c. search needs)
-    (λ c. search needs) (λ c. search needs) returns (λ c κs. search needs) fitted-requires assembled-requires
+    (λ c. search needs) (λ c. search needs) returns (λ c κs. search needs) fitted-requires store-requires
     (λ c. search needs) (λ c. search needs) (λ c. search needs) (λ c. search needs) (λ c. search needs)
     (λ c. search needs) returns-2)

@@ -1,12 +1,12 @@
 -- `fit_refuse::refusal` meets its contract. Assumes nothing.
-use Rattle.rules.specs.Refusals.{fitTable}
+use Rattle.rules.specs.Refusals.{fitRefusal}
 use Rattle.table.proofs.Refusals.{row}
 use borrow.Author.Needs.{needs}
 use Rattle.fit_refuse.proofs.refusal.Statement.{statement}
 use Rattle.fit_refuse.proofs.refusal.Tie as tie
 
 returns : tie.Need-returns
-unfolding fitTable
+unfolding fitRefusal
 returns c =
     let parts = c .before .before .before .before in
     let works = parts .before .before .before in

@@ -1,7 +1,8 @@
 //! `cargo run --release --bin record -- FILE`: writes the stored list of right answers that crates/replay runs.
 //!
-//! For each call some cases of every refusal, then as many accepted ones as fit into its share of 300 KB, from one
-//! fixed seed; so the file is the same at every run. Its form is described in src/check/stored.rs.
+//! For each call some cases of every refusal and of every way of a chroma total out of the range, then as many other
+//! accepted ones as fit into its share of 300 KB, from one fixed seed; so the file is the same at every run. Its form
+//! is described in src/check/stored.rs.
 
 use words::{Command, Takes, Word};
 
@@ -33,5 +34,10 @@ fn answers() -> Vec<u8> {
 
 #[cfg(not(oracle_absent))]
 fn answers() -> Vec<u8> {
-    compare::check::answers()
+    let mut list = Vec::new();
+    for (call, stored) in compare::check::answers() {
+        words::note(&format!("{}: {}", call.name, stored.line()));
+        list.extend(stored.bytes);
+    }
+    list
 }

@@ -1,7 +1,9 @@
 use super::case::Case;
-use super::expected::{cover_bytes, exactly, over, totals_leave, wrong_ratio, wrong_size, Length};
+use super::casts;
+use super::expected::{cover_bytes, exactly, over, wrong_ratio, wrong_size, Length};
 use super::inputs::sizes;
 use super::rng::Rng;
+use super::totals::{settle, Entries, Summed};
 use crate::oracle::layer as rust;
 use safeteal::ffi;
 
@@ -22,18 +24,22 @@ impl Case for Assemble {
     type Answer = u64;
 
     const NAME: &'static str = "assemble";
-    const NUMBERS: &'static [usize] = &[0, 1, 2, 4, 8];
+    const NUMBERS: &'static [usize] = &[0, 1, 2, 4];
     const WRITTEN: &'static [&'static str] = &["luma", "chroma1", "chroma2"];
 
     fn random(rng: &mut Rng) -> Self {
         let (width, height, ratio) = sizes(rng, 16);
         let half = 2 * (width / ratio) * (height / ratio);
         let (value, garbage) = (value_of_kind(rng), rng.bits() as i16);
+        let mut models: Vec<f32> = (0..4 * width * height).map(|_| value(rng)).collect();
+        if rng.once_in(3) {
+            casts::models(rng, &mut models, width, ratio);
+        }
         Self {
             width,
             height,
             ratio,
-            models: (0..4 * width * height).map(|_| value(rng)).collect(),
+            models,
             cover: rng.bytes(width.div_ceil(8) * height.div_ceil(8)),
             luma: vec![garbage; 2 * width * height],
             chroma1: vec![garbage; half],
@@ -74,17 +80,32 @@ impl Case for Assemble {
     }
 
     fn theirs(&mut self) -> u64 {
+        self.tallied().0
+    }
+
+    fn tallied(&mut self) -> (u64, Entries) {
+        settle(self)
+    }
+}
+
+impl Summed for Assemble {
+    fn rust(&self) -> rust::Fit {
         let models = self.models.chunks_exact(4);
         let models: Vec<_> = models.map(|m| (m[0], m[1], [m[2], m[3]])).collect();
         let size = (self.width, self.height);
-        let made = rust::assemble(size, self.ratio, |at| models[at], &self.cover);
-        let offsets = [0, 1].map(|plane| models.iter().map(|model| model.2[plane]).collect());
-        if totals_leave(&offsets, self.width, self.ratio, &made.chroma) {
-            return 8;
-        }
-        self.luma = made.luma;
-        [self.chroma1, self.chroma2] = made.chroma;
-        0
+        rust::assemble(size, self.ratio, |at| models[at], &self.cover)
+    }
+
+    fn offsets(&self) -> [Vec<f32>; 2] {
+        [2, 3].map(|at| self.models.chunks_exact(4).map(|model| model[at]).collect())
+    }
+
+    fn across(&self) -> (usize, usize) {
+        (self.width, self.ratio)
+    }
+
+    fn layer(&mut self) -> [&mut Vec<i16>; 3] {
+        [&mut self.luma, &mut self.chroma1, &mut self.chroma2]
     }
 }
 

@@ -6,6 +6,7 @@ use super::damage::input;
 use super::expected::Length;
 use super::lent::{arguments, Lent, Value};
 use super::rng::Rng;
+use super::totals::Entries;
 
 /// An input of a call.
 pub trait Case: Lent + Clone + 'static {
@@ -43,24 +44,42 @@ pub trait Case: Lent + Clone + 'static {
     /// Calls the proved library.
     fn ours(&mut self) -> Self::Answer;
 
-    /// The first fitting number of the call's rows of the table, but for 8; or 0.
+    /// The first fitting number of the call's rows of the table, or 0.
     fn refusal(&self) -> u64;
 
-    /// Leaves in an accepted input what the other side leaves, and gives the rules' answer (8 is found here). The other
-    /// side is the Rust, or a second implementation of a call that the Rust does not have.
+    /// Leaves in an accepted input what the other side leaves, and gives the rules' answer. The other side is the Rust,
+    /// or a second implementation of what the Rust does not have.
     fn theirs(&mut self) -> Self::Answer;
+
+    /// The same, with a count of the chroma entries by the side that they are compared with.
+    fn tallied(&mut self) -> (Self::Answer, Entries) {
+        (self.theirs(), Entries::default())
+    }
 
     /// The arguments that are free after this answer.
     fn free(_answer: u64) -> &'static [&'static str] {
         &[]
     }
 
-    /// Leaves what is right, and gives the right answer.
-    fn expected(&mut self) -> Self::Answer {
-        match self.refusal() {
-            0 => self.theirs(),
-            number => Self::Answer::refused(number),
-        }
+    /// Leaves what is right, and gives the right answer, whose number is one of the call's; with the chroma entries.
+    fn expected(&mut self) -> (Self::Answer, Entries) {
+        let (answer, entries) = match self.refusal() {
+            0 => self.tallied(),
+            number => (Self::Answer::refused(number), Entries::default()),
+        };
+        Self::known(answer);
+        (answer, entries)
+    }
+
+    /// # Panics
+    /// Where the answer has a number that the call never gives.
+    fn known(answer: Self::Answer) {
+        let number = (answer.word() % 256) as usize;
+        let (name, numbers) = (Self::NAME, Self::NUMBERS);
+        assert!(
+            numbers.contains(&number),
+            "{name} answers {number}, not one of {numbers:?}"
+        );
     }
 
     /// Row 4: whether a slice has a wrong length.
@@ -81,9 +100,10 @@ pub trait Case: Lent + Clone + 'static {
     }
 }
 
-/// Where the two sides differ, in words; with the right answer's word.
+/// Where the two sides differ, in words; with the right answer's word and the chroma entries.
 pub struct Compared {
     pub answer: u64,
+    pub entries: Entries,
     pub difference: Option<String>,
 }
 
@@ -91,11 +111,15 @@ pub struct Compared {
 pub fn compare<C: Case>(case: &C) -> Compared {
     let (mut ours, mut right) = (case.clone(), case.clone());
     let our_answer = ours.ours();
-    let right_answer = right.expected();
+    let (right_answer, entries) = right.expected();
     let answer = right_answer.word();
     let difference =
         unlike(our_answer, right_answer).or_else(|| difference(&mut ours, &mut right, answer));
-    Compared { answer, difference }
+    Compared {
+        answer,
+        entries,
+        difference,
+    }
 }
 
 /// The first element of an argument that is not as it should be.

@@ -1,10 +1,10 @@
 use super::case::Case;
-use super::expected::{
-    cover_bytes, exactly, over, totals_leave, wrong_ratio, wrong_setting, wrong_size, Length,
-};
+use super::casts;
+use super::expected::{cover_bytes, exactly, over, wrong_ratio, wrong_setting, wrong_size, Length};
 use super::inputs::{bytes, sizes};
 use super::motion::Motion;
 use super::rng::Rng;
+use super::totals::{settle, Entries, Summed};
 use crate::oracle::layer as rust;
 use safeteal::{groups, LayerMut, Settings, Size, Work};
 
@@ -82,7 +82,7 @@ impl Fit {
         let [previous, own, next] = parts(rng, size, kind);
         let half = 2 * (width / ratio) * (height / ratio);
         let garbage = rng.bits() as i16;
-        Self {
+        let mut made = Self {
             previous,
             own,
             next,
@@ -105,7 +105,22 @@ impl Fit {
             luma: vec![garbage; 2 * width * height],
             chroma1: vec![garbage; half],
             chroma2: vec![garbage; half],
+        };
+        if CASTS.contains(&kind) {
+            made.cast(rng);
         }
+        made
+    }
+
+    /// Gives strong casts to the sums, and mostly asks for little evidence, so that many pixels are kept.
+    fn cast(&mut self, rng: &mut Rng) {
+        if !rng.once_in(3) {
+            self.evidence = rng.pick(&[0.0, 1.0]);
+        }
+        let kept = self.kept(all(&self.sums())).into_iter();
+        let gains: Vec<Option<f32>> = kept.map(|found| found.map(|((gain, _), _)| gain)).collect();
+        let parts = [&mut self.previous, &mut self.own, &mut self.next];
+        casts::sums(rng, parts, &gains, self.width, self.ratio);
     }
 
     /// The parts, the settings, and the slices that are written.
@@ -128,9 +143,14 @@ impl Fit {
         (parts, settings, work, layer)
     }
 
-    /// The chroma offsets of all kept pixels, plane by plane: the steps of `fit` up to `assemble`, with the Rust's own
-    /// search for each pixel.
-    fn chroma_offsets(&self, parts: [Option<&rust::Stats>; 3]) -> [Vec<f32>; 2] {
+    /// The Rust's sums of the three parts.
+    fn sums(&self) -> [Option<rust::Stats>; 3] {
+        [&self.previous, &self.own, &self.next].map(Part::rust)
+    }
+
+    /// For each pixel its model and its trial, where it is kept: the steps of `fit` up to there, with the Rust's own
+    /// search.
+    fn kept(&self, parts: [Option<&rust::Stats>; 3]) -> Vec<rust::Found> {
         let (width, height) = (self.width, self.height);
         let limit = self.limit * self.limit;
         let found = |at| rust::window_at(parts, at, limit, self.evidence, self.strict);
@@ -143,24 +163,10 @@ impl Fit {
                 (0..9).filter(|side| set(held(x, side % 3, width), held(y, side / 3, height)));
             !set(x, y) || near.count() >= 3
         };
-        let mut offsets = [vec![0.0; width * height], vec![0.0; width * height]];
-        for (at, found) in found.iter().enumerate() {
-            let (x, y) = (at % width, at / width);
-            let Some(((gain, _), trial)) = found.as_ref().filter(|_| kept(x, y)) else {
-                continue;
-            };
-            let at_chroma = (y / self.ratio) * (width / self.ratio) + x / self.ratio;
-            for (plane, offsets) in offsets.iter_mut().enumerate() {
-                let (mut total, mut n) = ([0.0, 0.0], 0.0);
-                for part in parts[trial.clone()].iter().flatten() {
-                    let sums = part.chroma()[plane][at_chroma];
-                    total = [total[0] + sums[0], total[1] + sums[1]];
-                    n += part.count();
-                }
-                offsets[at] = (total[1] - gain * total[0]) / n;
-            }
-        }
-        offsets
+        let pixel = |(at, found): (usize, &rust::Found)| {
+            found.clone().filter(|_| kept(at % width, at / width))
+        };
+        found.iter().enumerate().map(pixel).collect()
     }
 }
 
@@ -168,7 +174,7 @@ impl Case for Fit {
     type Answer = u64;
 
     const NAME: &'static str = "fit";
-    const NUMBERS: &'static [usize] = &[0, 1, 2, 4, 6, 7, 8];
+    const NUMBERS: &'static [usize] = &[0, 1, 2, 4, 6, 7];
     const WRITTEN: &'static [&'static str] =
         &["models", "kept", "cover", "luma", "chroma1", "chroma2"];
 
@@ -232,33 +238,72 @@ impl Case for Fit {
     }
 
     fn theirs(&mut self) -> u64 {
-        let parts = [&self.previous, &self.own, &self.next].map(Part::rust);
-        let parts = [parts[0].as_ref(), parts[1].as_ref(), parts[2].as_ref()];
-        let size = (self.width, self.height);
-        let (limit, proof, strict) = (self.limit, self.evidence, self.strict);
-        let made = rust::fit(parts, size, limit, proof, strict, self.ratio);
-        let made = made.expect("an own part of 1 pair or more");
-        let offsets = self.chroma_offsets(parts);
-        if totals_leave(&offsets, self.width, self.ratio, &made.chroma) {
-            return 8;
-        }
-        self.luma = made.luma;
-        [self.chroma1, self.chroma2] = made.chroma;
-        0
+        self.tallied().0
+    }
+
+    fn tallied(&mut self) -> (u64, Entries) {
+        settle(self)
     }
 
     fn free(answer: u64) -> &'static [&'static str] {
         match answer % 256 {
-            0 | 8 => &["models", "kept", "cover"],
+            0 => &["models", "kept", "cover"],
             _ => &[],
         }
     }
 }
 
+impl Summed for Fit {
+    fn rust(&self) -> rust::Fit {
+        let (sums, size) = (self.sums(), (self.width, self.height));
+        let (limit, proof, strict) = (self.limit, self.evidence, self.strict);
+        let made = rust::fit(all(&sums), size, limit, proof, strict, self.ratio);
+        made.expect("an own part of 1 pair or more")
+    }
+
+    /// 0 of a pixel that is not kept.
+    fn offsets(&self) -> [Vec<f32>; 2] {
+        let (sums, width, ratio) = (self.sums(), self.width, self.ratio);
+        let parts = all(&sums);
+        let mut offsets = [(); 2].map(|()| vec![0.0; width * self.height]);
+        for (at, found) in self.kept(parts).into_iter().enumerate() {
+            let Some(((gain, _), trial)) = found else {
+                continue;
+            };
+            let at_chroma = (at / width / ratio) * (width / ratio) + at % width / ratio;
+            for (plane, offsets) in offsets.iter_mut().enumerate() {
+                let (mut total, mut n) = ([0.0, 0.0], 0.0);
+                for part in parts[trial.clone()].iter().flatten() {
+                    let sums = part.chroma()[plane][at_chroma];
+                    total = [total[0] + sums[0], total[1] + sums[1]];
+                    n += part.count();
+                }
+                offsets[at] = (total[1] - gain * total[0]) / n;
+            }
+        }
+        offsets
+    }
+
+    fn across(&self) -> (usize, usize) {
+        (self.width, self.ratio)
+    }
+
+    fn layer(&mut self) -> [&mut Vec<i16>; 3] {
+        [&mut self.luma, &mut self.chroma1, &mut self.chroma2]
+    }
+}
+
+/// Three parts as the Rust is lent them.
+fn all(sums: &[Option<rust::Stats>; 3]) -> [Option<&rust::Stats>; 3] {
+    sums.each_ref().map(Option::as_ref)
+}
+
 type Sizes = (usize, usize, usize);
 
-/// Sums are of any floats (0), gathered by the Rust (1), of a scene with a few sums spoilt (2), or of a scene.
+/// Sums are of any floats (0), gathered by the Rust (1), of a scene with a few sums spoilt (2) or with strong casts (3
+/// and 4), or of a scene.
 pub const KINDS: usize = 8;
+const CASTS: [usize; 2] = [3, 4];
 
 /// Three parts of one kind; a neighbour is absent once in three times.
 fn parts(rng: &mut Rng, size: Sizes, kind: usize) -> [Part; 3] {
@@ -290,23 +335,18 @@ struct Scene {
 }
 
 impl Scene {
-    /// Patches, lines and single dots of one or two kinds of lettering.
+    /// Patches, lines and single dots, of one kind of lettering or of another at each pixel.
     fn random(rng: &mut Rng, (width, height, _): Sizes) -> Self {
         let mut lettering = vec![(1.0, 0.0); width * height];
         for _ in 0..1 + rng.below(3 + width * height / 1024) {
-            let gain = rng.pick(&[0.0, 0.1, 0.5, 0.55, 0.6, 0.9, 0.98, 1.0, 1.02, 1.3, -0.5]);
-            let offset = rng.pick(&[0.0, 0.5, 1.5, 10.0, 40.0, 100.0, -30.0]);
-            // An offset of 2 is an error of 4 where a part lacks the lettering: the end of what is found.
-            let faint = (1.0, 1.9 + rng.unit() * 0.3);
-            let model = if rng.once_in(4) {
-                faint
-            } else {
-                (gain, offset)
-            };
+            let (model, mixed) = (letter(rng), rng.once_in(4));
             let (left, top) = (rng.below(width), rng.below(height));
             let (wide, high) = (1 + rng.below(6), 1 + rng.below(6));
             for y in top..(top + high).min(height) {
-                lettering[y * width + left..y * width + (left + wide).min(width)].fill(model);
+                let right = (left + wide).min(width);
+                for pixel in &mut lettering[y * width + left..y * width + right] {
+                    *pixel = if mixed { letter(rng) } else { model };
+                }
             }
         }
         Self {
@@ -357,6 +397,17 @@ impl Scene {
             pairs,
         }
     }
+}
+
+/// Lettering of one kind: a gain and an offset.
+fn letter(rng: &mut Rng) -> (f32, f32) {
+    if rng.once_in(4) {
+        // An offset of 2 is an error of 4 where a part lacks the lettering: the end of what is found.
+        return (1.0, 1.9 + rng.unit() * 0.3);
+    }
+    let gain = rng.pick(&[0.0, 0.1, 0.5, 0.55, 0.6, 0.9, 0.98, 1.0, 1.02, 1.3, -0.5]);
+    let offset = rng.pick(&[0.0, 0.5, 1.5, 10.0, 40.0, 100.0, -30.0]);
+    (gain, offset)
 }
 
 /// Sums of any floats.

@@ -4,7 +4,7 @@ use std::panic::{catch_unwind, AssertUnwindSafe};
 use std::time::{Duration, Instant, SystemTime, UNIX_EPOCH};
 
 use super::answer::Answer;
-use super::case::{compare, Case, Compared};
+use super::case::{compare, Case};
 use super::damage::input;
 use super::expected::NUMBERS;
 use super::lent::{arguments, Argument};
@@ -12,6 +12,7 @@ use super::rng::Rng;
 use super::show;
 use super::shrink::shrink;
 use super::stored;
+use super::totals::Entries;
 use super::CALLS;
 use words::note;
 
@@ -38,11 +39,13 @@ impl Until {
     }
 }
 
-/// What a run did: cases by the number of their answer, and the time it took.
+/// What a run did: cases by the number of their answer, chroma entries by what they were compared with, and the time
+/// it took.
 #[derive(Clone, Default)]
 pub struct Tally {
     pub by_number: [u64; NUMBERS],
     pub counted: u64,
+    pub entries: Entries,
     pub time: Duration,
 }
 
@@ -61,25 +64,28 @@ impl Tally {
             *sum += cases;
         }
         self.counted += other.counted;
+        self.entries.add(other.entries);
         self.time += other.time;
     }
 
-    fn note(&mut self, answer: u64) {
+    fn note(&mut self, answer: u64, entries: Entries) {
         self.by_number[(answer % 256) as usize] += 1;
         self.counted += answer / 256;
+        self.entries.add(entries);
     }
 
-    /// One line: cases, rate, and how many answers had each number.
+    /// One line: cases, rate, how many answers had each number, and the chroma entries where there are any.
     pub fn line(&self) -> String {
         let numbers: Vec<String> = (0..NUMBERS)
             .filter(|&number| self.by_number[number] > 0)
             .map(|number| format!("{number}: {}", self.by_number[number]))
             .collect();
         format!(
-            "{} cases, {:.0} a second ({})",
+            "{} cases, {:.0} a second ({}){}",
             self.cases(),
             self.rate(),
-            numbers.join(", ")
+            numbers.join(", "),
+            self.entries.tail()
         )
     }
 }
@@ -177,7 +183,8 @@ fn run<C: Case>(seed: u64, until: Until) -> Result<Tally, String> {
                 C::NAME
             )
         };
-        tally.note(judged(&case).map_err(place)?);
+        let (answer, entries) = judged(&case).map_err(place)?;
+        tally.note(answer, entries);
     }
     Ok(tally)
 }
@@ -188,14 +195,17 @@ fn alone<C: Case>(seed: u64, cases: u64) -> Tally {
     for index in 0..cases {
         let mut case = input::<C>(&mut Rng::of(seed, C::NAME, index));
         arguments(&mut case).iter_mut().for_each(Argument::tighten);
-        tally.note(case.ours().word());
+        let answer = case.ours();
+        C::known(answer);
+        tally.note(answer.word(), Entries::default());
     }
     tally.time = start.elapsed();
     tally
 }
 
-/// The right answer where both sides agree, else the words of the difference with a small input that has it.
-fn judged<C: Case>(case: &C) -> Result<u64, String> {
+/// The right answer and the chroma entries where both sides agree, else the words of the difference with a small input
+/// that has it.
+fn judged<C: Case>(case: &C) -> Result<(u64, Entries), String> {
     // A panic is the Rust's or this module's own: the proved library has none.
     let Ok(compared) = catch_unwind(AssertUnwindSafe(|| compare(case))) else {
         return Err(format!(
@@ -203,9 +213,8 @@ fn judged<C: Case>(case: &C) -> Result<u64, String> {
             show::call(case)
         ));
     };
-    let Compared { answer, difference } = compared;
-    let Some(words) = difference else {
-        return Ok(answer);
+    let Some(words) = compared.difference else {
+        return Ok((compared.answer, compared.entries));
     };
     note(&format!(
         "  {}: {words}; looking for a smaller input",

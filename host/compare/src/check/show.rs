@@ -9,7 +9,7 @@ use super::lent::{arguments, Argument, Value};
 /// The text of a test that makes the call on this input and asks for the right answer and the right slices.
 pub fn test<C: Case>(case: &C) -> String {
     let mut after = case.clone();
-    let answer = after.expected();
+    let (answer, _) = after.expected();
     let free = C::free(answer.word());
     let mut text = call(case) + &answered(answer);
     let compared = |argument: &Argument| {

@@ -1,5 +1,6 @@
 //! The stored list of the Rust's answers, which the program crates/replay runs where no Rust is at hand. Calls that the
-//! Rust does not have are not in it.
+//! Rust does not have are not in it. Chroma entries that are left out of the comparison with the Rust are stored as
+//! plain arithmetic gives them.
 //!
 //! All numbers are little-endian. The file is one case after another, to its end. A case is
 //!
@@ -12,14 +13,15 @@
 //! - u64: the right answer, count * 256 + number;
 //! - for each slice that the call may write, in order, its bytes after the call: as many as it had before.
 //!
-//! Two things are free: after an answer of number 0 or 8 fit's work slices (models, kept, cover: stored as they came),
-//! and in stats the bits of a NaN (stored as the Rust made it).
+//! Two things are free: after an answer of number 0 fit's work slices (models, kept, cover: stored as they came), and
+//! in stats the bits of a NaN (stored as the Rust made it).
 
 use super::case::Case;
 use super::damage::input;
 use super::expected::NUMBERS;
 use super::lent::{arguments, Argument, Value};
 use super::rng::Rng;
+use super::totals::Entries;
 
 /// Cases larger than this are left out.
 const LARGE: usize = 1500;
@@ -27,36 +29,50 @@ const LARGE: usize = 1500;
 const SMALL: usize = 450;
 /// Inputs looked at for the cases of one call.
 const LOOKED_AT: u64 = 20_000;
-/// Cases of each refusal.
-const REFUSED: usize = 3;
+/// Cases of each refusal, and of each way of a chroma total out of the range.
+const EACH: usize = 3;
 
 /// Cases of one call, one after another.
-#[derive(Default)]
+#[derive(Clone, Default)]
 pub struct Stored {
     pub bytes: Vec<u8>,
     pub cases: usize,
+    pub entries: Entries,
 }
 
-/// Cases of one call, at most so many bytes of them: first some of each refusal, then accepted ones, a larger one
-/// after three small ones.
+impl Stored {
+    fn add(&mut self, other: Self) {
+        self.bytes.extend(other.bytes);
+        self.cases += other.cases;
+        self.entries.add(other.entries);
+    }
+
+    /// One line: cases, bytes, and the chroma entries where there are any.
+    pub fn line(&self) -> String {
+        let (cases, bytes) = (self.cases, self.bytes.len());
+        format!("{cases} cases, {bytes} bytes{}", self.entries.tail())
+    }
+}
+
+/// Cases of one call, at most so many bytes of them: first some of each refusal and of each way of a chroma total out
+/// of the range, then other accepted ones, a larger one after three small ones.
 pub fn record<C: Case<Answer = u64>>(id: u32, seed: u64, bytes: usize) -> Stored {
-    let mut made = Stored::default();
-    let (mut refused, mut small, mut large) = (vec![Vec::new(); NUMBERS], Vec::new(), Vec::new());
+    let (mut small, mut large) = (Vec::new(), Vec::new());
+    let mut first = vec![Vec::new(); NUMBERS + Entries::WAYS];
     for index in 0..LOOKED_AT {
         let case: C = input(&mut Rng::of(seed, C::NAME, index));
-        let number = (case.clone().expected() % 256) as usize;
-        let one = stored(id, &case);
-        let fits = one.len() <= LARGE;
-        match number {
-            0 if one.len() <= SMALL => small.push(one),
-            0 if fits => large.push(one),
-            _ if fits => refused[number].push(one),
-            _ => {}
+        let (number, one) = stored(id, &case);
+        match (number, one.entries.way()) {
+            _ if one.bytes.len() > LARGE => {}
+            (0, Some(way)) => first[NUMBERS + way].push(one),
+            (0, None) if one.bytes.len() <= SMALL => small.push(one),
+            (0, None) => large.push(one),
+            _ => first[number].push(one),
         }
     }
-    let refused = refused.into_iter().flat_map(|mut cases| {
-        cases.sort_by_key(|case: &Vec<u8>| case.len() / 200);
-        cases.into_iter().take(REFUSED)
+    let first = first.into_iter().flat_map(|mut cases| {
+        cases.sort_by_key(|case: &Stored| case.bytes.len() / 200);
+        cases.into_iter().take(EACH)
     });
     // Where small ones run out, the larger ones follow by themselves.
     let mut large = large.into_iter();
@@ -65,20 +81,20 @@ pub fn record<C: Case<Answer = u64>>(id: u32, seed: u64, bytes: usize) -> Stored
         accepted.extend(three.iter().cloned().chain(large.next()));
     }
     accepted.extend(large);
-    for one in refused.chain(accepted) {
-        if made.bytes.len() + one.len() > bytes {
+    let mut made = Stored::default();
+    for one in first.chain(accepted) {
+        if made.bytes.len() + one.bytes.len() > bytes {
             break;
         }
-        made.cases += 1;
-        made.bytes.extend(one);
+        made.add(one);
     }
     made
 }
 
-/// One case in the file's form.
-fn stored<C: Case<Answer = u64>>(id: u32, case: &C) -> Vec<u8> {
+/// The number of the answer, and one case in the file's form.
+fn stored<C: Case<Answer = u64>>(id: u32, case: &C) -> (usize, Stored) {
     let (mut before, mut after) = (case.clone(), case.clone());
-    let answer = after.expected();
+    let (answer, entries) = after.expected();
     let free = C::free(answer);
     let (slices, numbers): (Vec<_>, Vec<_>) = arguments(&mut before)
         .into_iter()
@@ -108,7 +124,12 @@ fn stored<C: Case<Answer = u64>>(id: u32, case: &C) -> Vec<u8> {
             made.extend(bytes(if free { &before.value } else { &after.value }).1);
         }
     }
-    made
+    let one = Stored {
+        bytes: made,
+        cases: 1,
+        entries,
+    };
+    ((answer % 256) as usize, one)
 }
 
 fn count(made: &mut Vec<u8>, count: usize) {

@@ -1,4 +1,4 @@
-//! What a long run did, as a Markdown table: a row for each call and one for all.
+//! What a long run did, as a Markdown table: a row for each call and one for all, and below it the chroma entries.
 
 use super::run::Tally;
 
@@ -10,12 +10,14 @@ const HEAD: &str = "\
 /// The table of these calls by name.
 pub fn table<'a>(rows: impl Iterator<Item = (&'a str, &'a Tally)>) -> String {
     let mut all = Tally::default();
-    let mut made = HEAD.to_owned();
+    let (mut made, mut below) = (HEAD.to_owned(), String::new());
     for (call, tally) in rows {
         all.add(tally);
         made += &row(call, tally);
+        let entries = tally.entries.words().into_iter();
+        below.extend(entries.map(|words| format!("\n{call}: {words}\n")));
     }
-    made + &row("all", &all)
+    made + &row("all", &all) + &below
 }
 
 fn row(call: &str, tally: &Tally) -> String {

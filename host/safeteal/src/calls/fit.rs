@@ -26,7 +26,7 @@ impl Default for Settings {
     }
 }
 
-/// The slices that [`fit`] works in. What they hold afterwards means nothing.
+/// The slices that [`fit`] works in. What they hold means nothing after acceptance; a refusal leaves them as they were.
 #[derive(PartialEq)]
 pub struct Work<'a> {
     /// Exactly four numbers for each luma pixel.
@@ -47,9 +47,12 @@ const NAMES: [[&str; 3]; 3] = [
 ///
 /// [`LayerBuf::fit`] does this with slices of its own.
 ///
+/// What is found is stored as by [`assemble`](crate::assemble): no colour cast is too heavy, for the totals of chroma
+/// offsets are held.
+///
 /// # Errors
 /// `Refusal::Size`, `Refusal::Ratio`, `Refusal::Length`, `Refusal::Setting`, `Refusal::Pairs` (for a neighbour of
-/// no pairs as well: one that is absent is `None`), `Refusal::ChromaTotal`.
+/// no pairs as well: one that is absent is `None`).
 pub fn fit(
     parts: Parts<'_>,
     size: Size,
@@ -78,7 +81,6 @@ pub(crate) fn fitted(
     let (lent, number) = ([beside(previous), own, beside(next)], ratio.number());
     let word = groups::fit(lent, size, settings, number, &mut work, &mut layer);
     let lengths = layer.lengths();
-    let advice = "fit with another evidence figure or another limit";
     done(call, word, |search| {
         search
             .size(size)
@@ -95,8 +97,6 @@ pub(crate) fn fitted(
             .pairs_beside("previous", "the number of pairs in previous", previous)
             .pairs("the number of pairs in own", own.pairs)
             .pairs_beside("next", "the number of pairs in next", next)
-            // Fit leaves the models that it could not store in the work slice.
-            .total(work.models, (size, ratio), advice)
     })
 }
 
@@ -138,7 +138,8 @@ pub(crate) fn parts<'a>(
 }
 
 impl LayerBuf {
-    /// Fits a new layer to sums and those of their neighbours in the clip, of one size and ratio.
+    /// Fits a new layer to sums and those of their neighbours in the clip, of one size and ratio, as [`fit`] does: a
+    /// heavy colour cast is stored as near as 16 bits allow.
     ///
     /// ```
     /// use safeteal::{Frame, LayerBuf, MotionBuf, Pair, Ratio, Refusal, Settings, Size, Sums};
