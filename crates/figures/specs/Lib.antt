@@ -2,3 +2,4 @@ pub mod P
 pub mod Others
 pub mod Parcels
 pub mod Casts
+pub mod Cells

@@ -6,14 +6,14 @@ ghost use lib.ListN.{length, set};
 ghost use Rattle.rules.specs.Forms.{cells as cellsOf};
 ghost use Rattle.table.specs.Models.{modelPut};
 
-// How many cells lie along a side.
+// How many cells lie along a side: the last pixel's, and those before it.
 pub fn cells(size: usize) -> usize
     ensures { λ r. ⌜ r ≡ cellsOf size ⌝ }
 {
-    if size % 8 == 0 {
-        size / 8
+    if size == 0 {
+        0
     } else {
-        size / 8 + 1
+        layer_lookup::cell_of(size - 1, 8) + 1
     }
 }
 

@@ -137,8 +137,8 @@ impl<'a, T: Form> Texels<'a, T> {
     /// As [`texel`](Self::texel).
     #[must_use]
     pub fn is_layered(&self, x: usize, y: usize) -> bool {
-        let each = 8 / self.ratio();
-        self.texel(x, y) != Texel::NONE && self.layer.cells().distance(x / each, y / each) <= 1
+        let (column, row) = self.cell(x, y);
+        self.texel(x, y) != Texel::NONE && self.layer.cells().distance(column, row) <= 1
     }
 
     /// Gain and offset of every pixel, row after row.
@@ -166,6 +166,12 @@ impl<'a, T: Form> Texels<'a, T> {
             Channel::Luma => 1,
             Channel::Chroma1 | Channel::Chroma2 => self.layer.ratio.number(),
         }
+    }
+
+    /// The column and row of the cell that a pixel lies in. Its side, 8 luma pixels, is a power of two in every plane.
+    fn cell(&self, x: usize, y: usize) -> (usize, usize) {
+        let bits = 3 - self.ratio().trailing_zeros();
+        (x >> bits, y >> bits)
     }
 
     /// For a pixel of the plane.
@@ -299,6 +305,24 @@ mod tests {
             ..layer()
         };
         assert_eq!(far.texels(Channel::Luma).layered().count(), 0);
+    }
+
+    /// "A pixel's cell is its column and row divided by the cell side, 8, 4 or 2, both cut."
+    #[test]
+    fn a_pixels_cell() {
+        for (ratio, side) in [(Ratio::One, 8), (Ratio::Two, 4), (Ratio::Four, 2)] {
+            let layer = Layer { ratio, ..layer() };
+            for (channel, side) in [
+                (Channel::Luma, 8),
+                (Channel::Chroma1, side),
+                (Channel::Chroma2, side),
+            ] {
+                let texels = layer.texels(channel);
+                for k in 0..4096 {
+                    assert_eq!(texels.cell(k, 4095 - k), (k / side, (4095 - k) / side));
+                }
+            }
+        }
     }
 
     #[test]
