@@ -5,7 +5,7 @@ use Rattle.figures.specs.Cells.{Sides, MarkedCell}
 
 pub sides : Sides
 unfolding distance
-sides = (refl, refl, refl, refl, refl, refl)
+sides = (refl, refl, refl, refl, refl, refl, refl, refl, refl)
 
 pub marked-cell : MarkedCell
 marked-cell = (refl, refl, refl, refl, refl)

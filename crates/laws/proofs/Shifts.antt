@@ -5,7 +5,7 @@ use lib.Pow.{shr-shr}
 use mir.Syntax.{Width, w8, w16, w32, w64, w128, unsigned, shr}
 use mir.Val.{vint, asInt, op2Val}
 
--- the word that is left of n after the machine's shift right by k bits, in words of width w
+-- what the machine's shift right by k bits leaves of n, in words of width w; k is below the width in every program
 abbrev pub shifted : Width → (n k : ℕ) → ℕ
 shifted w n k = asInt 0 (op2Val (shr unsigned) (vint w n) (vint w k)) (λ _ left. left)
 
@@ -21,10 +21,10 @@ shift-right w128 n k = refl
 abbrev pub bit : (n j : ℕ) → ℕ
 bit n j = n / 2 ^ j % 2
 
--- which is what its bits say: each moves down k places
+-- and each bit of it is the one that stood k places above
 pub moved : (w : Width) (n k j : ℕ) → bit (shifted w n k) j ≡ bit n (k + j)
 moved w n k j = rw (shift-right w n k) (ap (λ (q : ℕ). q % 2) (shr-shr n k j))
 
--- and the quotient by a side that is such a power
+-- the quotient by a side that is such a power
 pub quotient : (w : Width) (n k : ℕ) {side : ℕ} → side ≡ 2 ^ k → shifted w n k ≡ n / side
 quotient w n k e = shift-right w n k ∙ rw e

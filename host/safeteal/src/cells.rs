@@ -41,7 +41,7 @@ impl<'a, T> Cells<'a, T> {
             data: layer.chroma[1],
             pitch: layer.pitch.1,
             first: layer.size.plane(Channel::Chroma2, layer.ratio).height,
-            size: Size::new(layer.size.width.div_ceil(8), layer.size.height.div_ceil(8)),
+            size: layer.size.in_cells(),
         }
     }
 

@@ -50,8 +50,19 @@ impl Size {
     /// For a size that no call takes it is at most `usize::MAX`.
     #[must_use]
     pub const fn cells(self) -> usize {
-        let down = self.height.div_ceil(8);
-        self.width.div_ceil(8).saturating_mul(down)
+        let Self { width, height } = self.in_cells();
+        width.saturating_mul(height)
+    }
+
+    /// Columns and rows of these cells: along a side the last pixel's, and those before it.
+    pub(crate) const fn in_cells(self) -> Self {
+        const fn along(side: usize) -> usize {
+            match side.checked_sub(1) {
+                Some(last) => (last >> 3) + 1,
+                None => 0,
+            }
+        }
+        Self::new(along(self.width), along(self.height))
     }
 
     /// Whether both sides are inside the limits.
@@ -443,7 +454,11 @@ mod tests {
 
     #[test]
     fn the_cells_of_any_size() {
-        assert_eq!(Size::new(9, 8).cells(), 2);
+        for side in 0..=4096usize {
+            let wide = Size::new(side, 9).in_cells();
+            assert_eq!(wide, Size::new(side.div_ceil(8), 2));
+            assert_eq!(Size::new(9, side).cells(), 2 * side.div_ceil(8));
+        }
         assert_eq!(Size::new(usize::MAX, usize::MAX).cells(), usize::MAX);
     }
 
