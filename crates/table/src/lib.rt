@@ -6,15 +6,12 @@ ghost use lib.ListN.{length, set};
 ghost use Rattle.rules.specs.Forms.{cells as cellsOf};
 ghost use Rattle.table.specs.Models.{modelPut};
 
-// How many cells lie along a side: the last pixel's, and those before it.
+// How many cells lie along a side: the whole ones, and one more where these are not all of it.
 pub fn cells(size: usize) -> usize
     ensures { λ r. ⌜ r ≡ cellsOf size ⌝ }
 {
-    if size == 0 {
-        0
-    } else {
-        layer_lookup::cell_of(size - 1, 8) + 1
-    }
+    let whole = layer_lookup::cell_of(size, 8);
+    if whole * 8 == size { whole } else { whole + 1 }
 }
 
 // A cover of this length has a byte for each cell.
