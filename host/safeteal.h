@@ -11,9 +11,10 @@
      3. safeteal_peel      for each frame and plane: lifts the lettering off
      4.                    the caller makes frames in between from the lifted ones
      5. safeteal_unpeel    for each of these and each plane: lays the lettering back
-   safeteal_render can take the place of 3 to 5 near the lettering. safeteal_mask, safeteal_apply and safeteal_hold keep
-   still what stood still; they need no layer. Where 2 and 3 happen at two desks, safeteal_parcel_write makes one run of
-   bytes of the layer, and safeteal_parcel_read a layer of these.
+   For a whole clip safeteal_walk_pair and safeteal_walk_layer take the place of 1 and 2: pairs are handed over one by
+   one, and each chunk of twelve has its layer. safeteal_render can take the place of 3 to 5 near the lettering.
+   safeteal_mask, safeteal_apply and safeteal_hold keep still what stood still; they need no layer. Where 2 and 3 happen
+   at two desks, safeteal_parcel_write makes one run of bytes of the layer, and safeteal_parcel_read a layer of these.
 
    Planes and pitches
    A frame has three planes of bytes: 0 is luma, of width by height pixels; 1 and 2 are chroma, of width / ratio by
@@ -33,11 +34,11 @@
      - Each length below is said to be exact or at least so much. Lengths are reckoned without overflow.
 
    Answers
-   All functions but the last two answer one number, count * 256 + number; where sizes are answered as well, it is the
-   word of struct safeteal_sizes. Number 0 is acceptance, and the count is then the pixels written by peel, unpeel and
-   render, and 0 for the others (safeteal_empty has its yes there). Any other number is a refusal, of enum
-   safeteal_refusal; where several would do, it is the lowest, but safeteal_parcel_read tests 9, 10 and 11 before 4. Its
-   count is 0, and every slice is as it was.
+   All functions but the last two answer one number, count * 256 + number; where sizes or a walk are answered as well,
+   it is the word of struct safeteal_sizes or struct safeteal_walked. Number 0 is acceptance, and the count is then the
+   pixels written by peel, unpeel and render, and 0 for the others (safeteal_empty and safeteal_walk_due have their yes
+   there). Any other number is a refusal, of enum safeteal_refusal; where several would do, it is the lowest, but
+   safeteal_parcel_read tests 9, 10 and 11 before 4. Its count is 0, and every slice is as it was.
 
        uint64_t answer = safeteal_peel(..);
        enum safeteal_refusal number = safeteal_number(answer);
@@ -91,7 +92,8 @@ enum safeteal_refusal {
     SAFETEAL_REFUSED_PAIRS = 7,
     SAFETEAL_REFUSED_RECORD = 9,
     SAFETEAL_REFUSED_KIND = 10,
-    SAFETEAL_REFUSED_PAYLOAD = 11
+    SAFETEAL_REFUSED_PAYLOAD = 11,
+    SAFETEAL_REFUSED_TURN = 12
 };
 
 /* An answer with sizes: those of luma in pixels, and the ratio. All three are 0 when the call is refused. */
@@ -100,6 +102,24 @@ struct safeteal_sizes {
     size_t width;
     size_t height;
     size_t ratio;
+};
+
+/* How far a walk over a clip has come: luma's size in pixels, the ratio, the clip's pairs, how many of these were
+   handed over, and how many layers were taken. */
+struct safeteal_walk {
+    size_t width;
+    size_t height;
+    size_t ratio;
+    size_t pairs;
+    size_t added;
+    size_t taken;
+};
+
+/* An answer with the walk to go on with. A refused safeteal_walk_start leaves all 0 there, any other refused call the
+   walk that it was given. */
+struct safeteal_walked {
+    uint64_t word; /* count * 256 + number */
+    struct safeteal_walk walk;
 };
 
 static inline enum safeteal_refusal safeteal_number(uint64_t answer) {
@@ -143,6 +163,9 @@ static inline const char *safeteal_refusal_words(enum safeteal_refusal number) {
     case SAFETEAL_REFUSED_PAYLOAD:
         return "the parcel's head has not 6 bytes, or its width or height is outside 1 to 4096, or its ratio is not "
                "1, 2 or 4 or does not divide them; or a payload has not the length that the head calls for";
+    case SAFETEAL_REFUSED_TURN:
+        return "a pair is handed over to a walk out of turn, after the clip's last or while a layer is due, or a layer "
+               "is taken when none is due: hand over pair walk.added, and take each layer before the next pair";
     }
     return "no number of this interface";
 }
@@ -171,7 +194,8 @@ static inline const char *safeteal_refusal_words(enum safeteal_refusal number) {
 
    Where the layer is lent as bytes (T is uint8_t) each number is two of them, the low one first: the lengths then count
    bytes and are at least twice these, an odd byte at the end is passed over, and the pitches still count numbers.
-   A layer that safeteal_fit, safeteal_assemble or safeteal_parcel_read left has the pitches width and width / ratio. */
+   A layer that safeteal_fit, safeteal_walk_layer, safeteal_assemble or safeteal_parcel_read left has the pitches width
+   and width / ratio. */
 #define SAFETEAL_LAYER(T) \
     const T *luma, size_t luma_len, const T *chroma1, size_t chroma1_len, const T *chroma2, size_t chroma2_len, \
     size_t luma_pitch, size_t chroma_pitch, size_t width, size_t height, size_t ratio
@@ -205,14 +229,37 @@ static inline const char *safeteal_refusal_words(enum safeteal_refusal number) {
     size_t grid_width, size_t grid_height, int32_t block_width, int32_t block_height, \
     int32_t origin_x, int32_t origin_y, int32_t pel
 
+/* All planes of two neighbouring frames as they came: first0, first1 and first2 are planes 0, 1 and 2 of the first
+   frame, second0 and so on those of the second. */
+#define SAFETEAL_PLANES \
+    const uint8_t *first0, size_t first0_len, size_t first0_pitch, \
+    const uint8_t *first1, size_t first1_len, size_t first1_pitch, \
+    const uint8_t *first2, size_t first2_len, size_t first2_pitch, \
+    const uint8_t *second0, size_t second0_len, size_t second0_pitch, \
+    const uint8_t *second1, size_t second1_len, size_t second1_pitch, \
+    const uint8_t *second2, size_t second2_len, size_t second2_pitch
+
+/* The sums of the three chunks that a walk keeps, in slots 0, 1 and 2: of each those of luma and of planes 1 and 2, so
+   that chroma12 are plane 2's in slot 1. Each call of a walk is lent the same nine, and nobody else changes them
+   meanwhile; before the first pair they may hold any values. Which chunk lies in which slot is the walk's own business.
+
+   All nine are measured in each call, however few pairs the clip has. Exact lengths, as those of safeteal_stats, 174 MB
+   in all for 1920 by 1080 at ratio 2:
+
+       luma0, luma1, luma2                 6 * width * height each
+       chroma01, chroma02, chroma11, ..    2 * (width / ratio) * (height / ratio) each */
+#define SAFETEAL_SLOTS(T) \
+    T luma0, size_t luma0_len, T chroma01, size_t chroma01_len, T chroma02, size_t chroma02_len, \
+    T luma1, size_t luma1_len, T chroma11, size_t chroma11_len, T chroma12, size_t chroma12_len, \
+    T luma2, size_t luma2_len, T chroma21, size_t chroma21_len, T chroma22, size_t chroma22_len
+
 /* ---- Finding the lettering ---- */
 
-/* Adds one pair of neighbouring frames as they came, all their planes, to the sums of a part.
+/* Adds one pair of neighbouring frames to the sums of a part.
 
-   first0, first1 and first2 are planes 0, 1 and 2 of the first frame, second0 and so on those of the second. pairs is
-   how many pairs the sums hold already, 0 to 11, which the caller counts: with 0 the sums start from 0, whatever they
-   held. Each pair makes two comparisons for a pixel: the second frame with the first moved onto it, and the other way
-   round.
+   pairs is how many pairs the sums hold already, 0 to 11, which the caller counts: with 0 the sums start from 0,
+   whatever they held. Each pair makes two comparisons for a pixel: the second frame with the first moved onto it, and
+   the other way round.
 
    Writes all of luma, chroma1 and chroma2, the sums. Exact lengths, 58 MB for 1920 by 1080 at ratio 2:
 
@@ -225,14 +272,7 @@ static inline const char *safeteal_refusal_words(enum safeteal_refusal number) {
 uint64_t safeteal_stats(
     float *SAFETEAL_RESTRICT luma, size_t luma_len, float *SAFETEAL_RESTRICT chroma1, size_t chroma1_len,
     float *SAFETEAL_RESTRICT chroma2, size_t chroma2_len,
-    size_t pairs, size_t width, size_t height, size_t ratio,
-    const uint8_t *first0, size_t first0_len, size_t first0_pitch,
-    const uint8_t *first1, size_t first1_len, size_t first1_pitch,
-    const uint8_t *first2, size_t first2_len, size_t first2_pitch,
-    const uint8_t *second0, size_t second0_len, size_t second0_pitch,
-    const uint8_t *second1, size_t second1_len, size_t second1_pitch,
-    const uint8_t *second2, size_t second2_len, size_t second2_pitch,
-    SAFETEAL_MOTION);
+    size_t pairs, size_t width, size_t height, size_t ratio, SAFETEAL_PLANES, SAFETEAL_MOTION);
 
 /* Finds the lettering in the sums of a part (own, own1, own2 for planes 0, 1, 2, with pairs, 1 to 12) and of the parts
    before and after it in the clip (previous.. with before, next.. with after, 0 to 12), and stores it as a layer.
@@ -285,6 +325,56 @@ uint64_t safeteal_assemble(
     const float *models, size_t models_len, const uint8_t *cover, size_t cover_len,
     int16_t *SAFETEAL_RESTRICT luma, size_t luma_len, int16_t *SAFETEAL_RESTRICT chroma1, size_t chroma1_len,
     int16_t *SAFETEAL_RESTRICT chroma2, size_t chroma2_len);
+
+/* ---- Walking over a whole clip ---- */
+
+/* Starts a walk over a clip of that many pairs, whatever their number. Writes nothing.
+
+   Pairs, chunks and layers are counted from 0. Chunk c has pairs 12 * c to 12 * c + 11, and the last chunk those that
+   are left. There is a layer for each chunk, fitted to the sums of the chunk and of those before and after it; the
+   first chunk has none before it, and the last none after it. Layer c is due once chunk c + 1 is complete, or the clip,
+   and is taken before the next pair. So a walk needs the sums of three chunks at a time, however long the clip is. Of
+   30 pairs, layer 0 is due after pair 23, and layers 1 and 2 after pair 29. A clip of no pairs gives no layer.
+
+       struct safeteal_walked at = safeteal_walk_start(width, height, ratio, pairs);
+       for (size_t number = 0; number < pairs; number++) {
+           at = safeteal_walk_pair(at.walk, .., number, ..);
+           while (safeteal_walk_due(at.walk)) at = safeteal_walk_layer(at.walk, ..);
+       }
+
+   Each layer is the one that safeteal_fit makes of the sums that safeteal_stats makes of the chunks' pairs. A refusal
+   changes nothing: the walk that is answered is the one that was given, and goes on. */
+struct safeteal_walked safeteal_walk_start(size_t width, size_t height, size_t ratio, size_t pairs);
+
+/* Hands over the pair of that number: adds it to the sums of its chunk, as safeteal_stats does. The walk that is
+   answered has one more in added.
+
+   The number must be walk.added and below walk.pairs, and no layer may be due: else it is refused with 12, which is
+   tested last. So is a walk that accepted calls from a start on do not leave.
+
+   Writes the three slices of one slot, all of them. */
+struct safeteal_walked safeteal_walk_pair(
+    struct safeteal_walk walk, SAFETEAL_SLOTS(float *SAFETEAL_RESTRICT), size_t number, SAFETEAL_PLANES,
+    SAFETEAL_MOTION);
+
+/* Takes the layer that is due, that of chunk walk.taken. limit, evidence and strict are those of safeteal_fit, and each
+   layer may have its own. The walk that is answered has one more in taken.
+
+   Where no layer is due, it is refused with 12, which is tested last; so is a walk that accepted calls from a start on
+   do not leave. As the sums are only read, a layer can be tried: by going on with the walk as it was.
+
+   Writes all of luma, chroma1 and chroma2: the layer. models, kept and cover are work slices. What they hold, and the
+   lengths of all six, is as in safeteal_fit. */
+struct safeteal_walked safeteal_walk_layer(
+    struct safeteal_walk walk, SAFETEAL_SLOTS(const float *), float limit, float evidence, bool strict,
+    float *SAFETEAL_RESTRICT models, size_t models_len, uint8_t *SAFETEAL_RESTRICT kept, size_t kept_len,
+    uint8_t *SAFETEAL_RESTRICT cover, size_t cover_len,
+    int16_t *SAFETEAL_RESTRICT luma, size_t luma_len, int16_t *SAFETEAL_RESTRICT chroma1, size_t chroma1_len,
+    int16_t *SAFETEAL_RESTRICT chroma2, size_t chroma2_len);
+
+/* Whether a layer is due: safeteal_count is 1 for yes and 0 for no. (The answer is 256 or 0.) It is no for a walk that
+   accepted calls from a start on do not leave, and never refused. Writes nothing. */
+uint64_t safeteal_walk_due(struct safeteal_walk walk);
 
 /* ---- Lifting it off and laying it back; each call is for one plane ---- */
 
@@ -456,6 +546,8 @@ int16_t safeteal_stored(float value, float scale);
 #undef SAFETEAL_OUTPUT
 #undef SAFETEAL_FRAMES
 #undef SAFETEAL_MOTION
+#undef SAFETEAL_PLANES
+#undef SAFETEAL_SLOTS
 #undef SAFETEAL_RESTRICT
 
 #ifdef __cplusplus

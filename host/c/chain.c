@@ -1,6 +1,6 @@
 /* The whole chain from C: a made-up clip with lettering, twelve pairs added up, the lettering found, sent to another
    desk as a parcel, lifted off frames there, and laid back onto a frame and onto one in between, with every refusal
-   told in words.
+   told in words; then a walk over a longer clip, with a layer for each of its chunks.
 
    To build it, in the project's root: cc -Ihost host/c/chain.c target/staticlib/libhost.a -o chain */
 #include <stdio.h>
@@ -11,6 +11,8 @@
 
 enum { WIDTH = 64, HEIGHT = 32, RATIO = 2, PIXELS = WIDTH * HEIGHT, CHROMA_PIXELS = PIXELS / (RATIO * RATIO) };
 enum { CELLS = ((WIDTH + 7) / 8) * ((HEIGHT + 7) / 8), PAIRS = 12, PLANES = 3 };
+/* The pairs of the longer clip, and the chunks whose sums a walk keeps. */
+enum { CLIP = 30, SLOTS = 3 };
 /* The lettering is a bar: the first pixel across and down, and the first after it. All are even, so that it covers
    whole chroma pixels. */
 enum { LEFT = 28, RIGHT = 32, TOP = 8, BOTTOM = 24, BAR = (RIGHT - LEFT) * (BOTTOM - TOP) };
@@ -71,6 +73,18 @@ static void free_frame(struct frame frame) {
     for (size_t plane = 0; plane < PLANES; plane++) {
         free(frame.plane[plane]);
     }
+}
+
+static struct part new_part(void) {
+    struct part part = {room(6 * PIXELS, sizeof *part.luma), room(2 * CHROMA_PIXELS, sizeof *part.chroma1),
+                        room(2 * CHROMA_PIXELS, sizeof *part.chroma2), 0};
+    return part;
+}
+
+static void free_part(struct part part) {
+    free(part.luma);
+    free(part.chroma1);
+    free(part.chroma2);
 }
 
 /* A layer without padding: two numbers for each pixel of luma, and two for each of a chroma plane. */
@@ -356,16 +370,102 @@ static bool one_too_many(struct part *part) {
     return number == SAFETEAL_REFUSED_PAIRS && part->pairs == PAIRS;
 }
 
+/* ---- a longer clip ---- */
+
+/* Hands over a pair of the longer clip to a walk: the clip is the twelve pairs over and over again. */
+static struct safeteal_walked hand_over(struct safeteal_walk walk, struct part slots[SLOTS], size_t number) {
+    int own = (int)(number % PAIRS), right = camera(own + 1) - camera(own);
+    const uint16_t none = 1024, forward = (uint16_t)(1024 - right), backward = (uint16_t)(1024 + right);
+    struct frame first = new_frame(), second = new_frame();
+    draw(first, own);
+    draw(second, own + 1);
+    struct safeteal_walked answer = safeteal_walk_pair(
+        walk, slots[0].luma, 6 * PIXELS, slots[0].chroma1, 2 * CHROMA_PIXELS, slots[0].chroma2, 2 * CHROMA_PIXELS,
+        slots[1].luma, 6 * PIXELS, slots[1].chroma1, 2 * CHROMA_PIXELS, slots[1].chroma2, 2 * CHROMA_PIXELS,
+        slots[2].luma, 6 * PIXELS, slots[2].chroma1, 2 * CHROMA_PIXELS, slots[2].chroma2, 2 * CHROMA_PIXELS, number,
+        first.plane[0], PIXELS, width_of(0), first.plane[1], CHROMA_PIXELS, width_of(1),
+        first.plane[2], CHROMA_PIXELS, width_of(2),
+        second.plane[0], PIXELS, width_of(0), second.plane[1], CHROMA_PIXELS, width_of(1),
+        second.plane[2], CHROMA_PIXELS, width_of(2),
+        &forward, 1, &none, 1, &backward, 1, &none, 1, 1, 1, 16, 16, 0, 0, 1);
+    free_frame(first);
+    free_frame(second);
+    return answer;
+}
+
+/* As often as a pixel can have been apart: twice for each pair of a chunk and of those before and after it. */
+static float most_evidence(size_t chunk) {
+    size_t begins = chunk == 0 ? 0 : PAIRS * (chunk - 1), ends = PAIRS * (chunk + 2);
+    return 2.0f * (float)((ends < CLIP ? ends : CLIP) - begins);
+}
+
+/* Takes the layer that is due. */
+static struct safeteal_walked take(struct safeteal_walk walk, const struct part slots[SLOTS], struct layer layer) {
+    float *models = room(4 * PIXELS, sizeof *models);
+    uint8_t *kept = room(PIXELS, 1), *cover = room(CELLS, 1);
+    struct safeteal_walked answer = safeteal_walk_layer(
+        walk, slots[0].luma, 6 * PIXELS, slots[0].chroma1, 2 * CHROMA_PIXELS, slots[0].chroma2, 2 * CHROMA_PIXELS,
+        slots[1].luma, 6 * PIXELS, slots[1].chroma1, 2 * CHROMA_PIXELS, slots[1].chroma2, 2 * CHROMA_PIXELS,
+        slots[2].luma, 6 * PIXELS, slots[2].chroma1, 2 * CHROMA_PIXELS, slots[2].chroma2, 2 * CHROMA_PIXELS,
+        6.0f, most_evidence(walk.taken), false, models, 4 * PIXELS, kept, PIXELS, cover, CELLS,
+        layer.luma, 2 * PIXELS, layer.chroma1, 2 * CHROMA_PIXELS, layer.chroma2, 2 * CHROMA_PIXELS);
+    free(models);
+    free(kept);
+    free(cover);
+    return answer;
+}
+
+/* Whether the layer of a chunk lifts the whole bar off the clip's frame 5. */
+static bool lifts(struct layer layer, struct safeteal_walk walk) {
+    struct frame raw = new_frame(), output = new_frame();
+    uint64_t counts[PLANES] = {0, 0, 0};
+    draw(raw, 5);
+    bool right = lift(layer, output, raw, counts);
+    printf("after pair %d of %d: layer %d lifts %d pixels of luma\n", (int)walk.added - 1, CLIP, (int)walk.taken - 1,
+           (int)counts[0]);
+    right = right && counts[0] == BAR && from_scene(output, 5) <= 4;
+    free_frame(raw);
+    free_frame(output);
+    return right;
+}
+
+/* Walks over the longer clip, and takes each layer as soon as it is due; a pair after the last is refused. */
+static bool walk_over(struct part slots[SLOTS], struct layer layer) {
+    struct safeteal_walked at = safeteal_walk_start(WIDTH, HEIGHT, RATIO, CLIP);
+    bool right = accepted("safeteal_walk_start", at.word);
+    for (size_t number = 0; right && number < CLIP; number++) {
+        at = hand_over(at.walk, slots, number);
+        right = accepted("safeteal_walk_pair", at.word);
+        while (right && safeteal_walk_due(at.walk)) {
+            at = take(at.walk, slots, layer);
+            right = accepted("safeteal_walk_layer", at.word) && lifts(layer, at.walk);
+        }
+    }
+    if (right) {
+        enum safeteal_refusal number = safeteal_number(hand_over(at.walk, slots, CLIP).word);
+        printf("pair %d: refused (%d), %s\n", CLIP, (int)number, safeteal_refusal_words(number));
+        right = number == SAFETEAL_REFUSED_TURN && at.walk.added == CLIP && at.walk.taken == (CLIP + PAIRS - 1) / PAIRS;
+    }
+    return right;
+}
+
+/* The walk, with room for the sums of three chunks. */
+static bool walk(struct layer layer) {
+    struct part slots[SLOTS] = {new_part(), new_part(), new_part()};
+    bool right = walk_over(slots, layer);
+    for (size_t slot = 0; slot < SLOTS; slot++) {
+        free_part(slots[slot]);
+    }
+    return right;
+}
+
 int main(void) {
-    struct part part = {room(6 * PIXELS, sizeof(float)), room(2 * CHROMA_PIXELS, sizeof(float)),
-                        room(2 * CHROMA_PIXELS, sizeof(float)), 0};
+    struct part part = new_part();
     struct layer fitted = new_layer(PIXELS, CHROMA_PIXELS), layer = {NULL, NULL, NULL};
     printf("safeteal.h %s: %d pairs of frames of %d by %d\n", SAFETEAL_VERSION, PAIRS, WIDTH, HEIGHT);
     bool right = add_all(&part) && find(part, fitted) && deliver(fitted, &layer) && lift_and_lay_back(layer) &&
-                 one_too_many(&part);
-    free(part.luma);
-    free(part.chroma1);
-    free(part.chroma2);
+                 one_too_many(&part) && walk(fitted);
+    free_part(part);
     free_layer(fitted);
     free_layer(layer);
     return right ? EXIT_SUCCESS : EXIT_FAILURE;

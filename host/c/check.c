@@ -30,11 +30,11 @@ static const char *words(int number) {
 static void answers(void) {
     CHECK(safeteal_number(3 * 256 + 7) == SAFETEAL_REFUSED_PAIRS && safeteal_count(3 * 256 + 7) == 3);
     CHECK(safeteal_count(UINT64_MAX) == UINT64_MAX >> 8);
-    for (int a = SAFETEAL_ACCEPTED; a <= SAFETEAL_REFUSED_PAYLOAD; a++) {
+    for (int a = SAFETEAL_ACCEPTED; a <= SAFETEAL_REFUSED_TURN; a++) {
         for (int b = SAFETEAL_ACCEPTED; b < a; b++) {
             CHECK(strcmp(words(a), words(b)) != 0);
         }
-        CHECK((strcmp(words(a), words(SAFETEAL_REFUSED_PAYLOAD + 1)) == 0) == (a == 8));
+        CHECK((strcmp(words(a), words(SAFETEAL_REFUSED_TURN + 1)) == 0) == (a == 8));
     }
 }
 
@@ -68,11 +68,14 @@ static void each_refusal(void) {
     REFUSED(SETTING, safeteal_apply(&byte, 1, 1, &other, 1, &other, 1, 1, 1, 1, &other, 1, 1, NAN));
     REFUSED(PAIRS, stats_of(sums, chroma1, chroma2, 12, 1));
     CHECK(byte == 1 && sums[0] == 0 && chroma1[0] == 0 && chroma2[0] == 0);
+    REFUSED(SIZE, safeteal_walk_start(0, 1, 1, 12).word);
+    REFUSED(RATIO, safeteal_walk_start(6, 4, 4, 12).word);
 }
 
 /* Where all slices are NULL with 0, each call comes back, with 4; a mask without cells is 2, a parcel of no bytes 10,
    and no cells at all are no wrong length for distances. */
 static void nothing_lent(void) {
+    const struct safeteal_walk walk = safeteal_walk_start(1, 1, 1, 1).walk;
     REFUSED(LENGTH, safeteal_stats(
         NOTHING, NOTHING, NOTHING, 0, 1, 1, 1, NOTHING, 1, NOTHING, 1, NOTHING, 1, NOTHING, 1, NOTHING, 1, NOTHING, 1,
         NOTHING, NOTHING, NOTHING, NOTHING, 1, 1, 16, 16, 0, 0, 1));
@@ -80,6 +83,13 @@ static void nothing_lent(void) {
         NOTHING, NOTHING, NOTHING, 0, NOTHING, NOTHING, NOTHING, 1, NOTHING, NOTHING, NOTHING, 0, 1, 1, 6, 2, false, 1,
         NOTHING, NOTHING, NOTHING, NOTHING, NOTHING, NOTHING));
     REFUSED(LENGTH, safeteal_assemble(1, 1, 1, NOTHING, NOTHING, NOTHING, NOTHING, NOTHING));
+    REFUSED(LENGTH, safeteal_walk_pair(
+        walk, NOTHING, NOTHING, NOTHING, NOTHING, NOTHING, NOTHING, NOTHING, NOTHING, NOTHING, 0,
+        NOTHING, 1, NOTHING, 1, NOTHING, 1, NOTHING, 1, NOTHING, 1, NOTHING, 1,
+        NOTHING, NOTHING, NOTHING, NOTHING, 1, 1, 16, 16, 0, 0, 1).word);
+    REFUSED(LENGTH, safeteal_walk_layer(
+        walk, NOTHING, NOTHING, NOTHING, NOTHING, NOTHING, NOTHING, NOTHING, NOTHING, NOTHING, 6, 2, false,
+        NOTHING, NOTHING, NOTHING, NOTHING, NOTHING, NOTHING).word);
     REFUSED(LENGTH, safeteal_peel(NOTHING, NOTHING, NOTHING, 1, 1, 1, 1, 1, 0, NOTHING, 1, NOTHING, 1));
     REFUSED(LENGTH, safeteal_peel_numbers(NOTHING, NOTHING, NOTHING, 1, 1, 1, 1, 1, 0, NOTHING, 1, NOTHING, 1));
     REFUSED(LENGTH, safeteal_unpeel(
@@ -222,6 +232,176 @@ static void present_neighbours(void) {
         NOTHING, NOTHING, NOTHING, 0, own.luma, 6, own.chroma1, 2, own.chroma2, 2, 0, NOTHING, NOTHING, NOTHING, 0,
         1, 1, 6, 24, false, 1, models, 4, &kept, 1, &cover, 1, stored.luma, 2, stored.chroma1, 2, stored.chroma2, 2));
     CHECK(models[0] == 3 && kept == 3 && cover == 3 && stored.luma[0] == 0);
+}
+
+/* ---- walks ---- */
+
+/* What a walk over frames of one pixel is lent: the sums of three slots, what fit works in, and a layer. */
+struct lent {
+    struct sums slots[3];
+    float models[4];
+    uint8_t kept, cover;
+    struct stored layer;
+};
+
+/* What a call of a walk can be given wrong: the length of a slice of sums, and numbers of a frame and a setting. */
+struct wrong {
+    size_t length, pitch;
+    int32_t pel;
+    float limit;
+};
+
+static const struct wrong RIGHT = {2, 1, 1, 6};
+
+/* The bytes of a pair's first frame, in all planes, and of its second: in each chunk they have another sum. */
+static uint8_t first_of(size_t number) {
+    return (uint8_t)(number * 37 % 200);
+}
+
+static uint8_t second_of(size_t number) {
+    return (uint8_t)(255 - 9 * (number / 12) - first_of(number));
+}
+
+static struct safeteal_walked handed(struct safeteal_walk walk, struct lent *lent, size_t number, struct wrong wrong) {
+    const uint8_t first = first_of(number), second = second_of(number);
+    const uint16_t none = 1024;
+    struct sums *sums = lent->slots;
+    return safeteal_walk_pair(
+        walk, sums[0].luma, 6, sums[0].chroma1, 2, sums[0].chroma2, 2, sums[1].luma, 6, sums[1].chroma1, 2,
+        sums[1].chroma2, 2, sums[2].luma, 6, sums[2].chroma1, 2, sums[2].chroma2, wrong.length, number,
+        &first, 1, 1, &first, 1, 1, &first, 1, 1, &second, 1, 1, &second, 1, 1, &second, 1, wrong.pitch,
+        &none, 1, &none, 1, &none, 1, &none, 1, 1, 1, 16, 16, 0, 0, wrong.pel);
+}
+
+static struct safeteal_walked taken(struct safeteal_walk walk, struct lent *lent, struct wrong wrong) {
+    struct sums *sums = lent->slots;
+    return safeteal_walk_layer(
+        walk, sums[0].luma, 6, sums[0].chroma1, 2, sums[0].chroma2, 2, sums[1].luma, 6, sums[1].chroma1, 2,
+        sums[1].chroma2, 2, sums[2].luma, 6, sums[2].chroma1, 2, sums[2].chroma2, 2, wrong.limit, 2, false,
+        lent->models, 4, &lent->kept, 1, &lent->cover, 1, lent->layer.luma, 2, lent->layer.chroma1, 2,
+        lent->layer.chroma2, wrong.length);
+}
+
+static bool same_walk(struct safeteal_walk a, struct safeteal_walk b) {
+    return a.width == b.width && a.height == b.height && a.ratio == b.ratio && a.pairs == b.pairs &&
+           a.added == b.added && a.taken == b.taken;
+}
+
+static bool same_lent(const struct lent *a, const struct lent *b) {
+    return memcmp(a->slots, b->slots, sizeof a->slots) == 0 && memcmp(a->models, b->models, sizeof a->models) == 0 &&
+           a->kept == b->kept && a->cover == b->cover && memcmp(&a->layer, &b->layer, sizeof a->layer) == 0;
+}
+
+/* Whether a call was refused by that number and answered the walk that it was given. */
+static bool stays(enum safeteal_refusal number, struct safeteal_walk walk, struct safeteal_walked answer) {
+    return answer.word == (uint64_t)number && same_walk(walk, answer.walk);
+}
+
+/* All that can be refused from here on changes nothing, neither in the walk nor in what is lent. */
+static void refused_at(struct safeteal_walk walk, struct lent *lent, bool due) {
+    const struct lent before = *lent;
+    const struct wrong length = {1, 1, 1, 6}, pitch = {2, 0, 1, 6}, pel = {2, 1, 3, 6}, limit = {2, 1, 1, NAN};
+    CHECK(stays(SAFETEAL_REFUSED_PITCH, walk, handed(walk, lent, walk.added, pitch)));
+    CHECK(stays(SAFETEAL_REFUSED_LENGTH, walk, handed(walk, lent, walk.added, length)));
+    CHECK(stays(SAFETEAL_REFUSED_MOTION, walk, handed(walk, lent, walk.added, pel)));
+    CHECK(stays(SAFETEAL_REFUSED_LENGTH, walk, taken(walk, lent, length)));
+    CHECK(stays(SAFETEAL_REFUSED_SETTING, walk, taken(walk, lent, limit)));
+    CHECK(stays(SAFETEAL_REFUSED_TURN, walk, handed(walk, lent, walk.added + 1, RIGHT)));
+    CHECK(stays(SAFETEAL_REFUSED_TURN, walk, handed(walk, lent, walk.added - 1, RIGHT)));
+    if (due || walk.added == walk.pairs) {
+        CHECK(stays(SAFETEAL_REFUSED_TURN, walk, handed(walk, lent, walk.added, RIGHT)));
+    }
+    if (!due) {
+        CHECK(stays(SAFETEAL_REFUSED_TURN, walk, taken(walk, lent, RIGHT)));
+    }
+    CHECK(safeteal_walk_due(walk) == (due ? 256 : 0));
+    CHECK(same_lent(lent, &before));
+}
+
+/* The sums of a chunk of a clip of so many pairs, by safeteal_stats; they are in `pairs`. */
+static struct sums chunk(size_t number, size_t clip, size_t *pairs) {
+    struct sums sums = {{0}, {0}, {0}};
+    const uint16_t none = 1024;
+    *pairs = 0;
+    for (size_t at = 12 * number; at < clip && *pairs < 12; at++) {
+        const uint8_t first = first_of(at), second = second_of(at);
+        CHECK(safeteal_stats(
+            sums.luma, 6, sums.chroma1, 2, sums.chroma2, 2, *pairs, 1, 1, 1, &first, 1, 1, &first, 1, 1, &first, 1, 1,
+            &second, 1, 1, &second, 1, 1, &second, 1, 1, &none, 1, &none, 1, &none, 1, &none, 1, 1, 1, 16, 16, 0, 0,
+            1) == 0);
+        ++*pairs;
+    }
+    return sums;
+}
+
+/* The layer of a chunk, by safeteal_fit. */
+static struct stored by_hand(size_t number, size_t clip) {
+    size_t before = 0, pairs, after;
+    struct sums previous = {{0}, {0}, {0}}, own = chunk(number, clip, &pairs), next = chunk(number + 1, clip, &after);
+    if (number > 0) {
+        previous = chunk(number - 1, clip, &before);
+    }
+    struct stored stored = {{0}, {0}, {0}};
+    float models[4] = {0};
+    uint8_t kept = 0, cover = 0;
+    CHECK(safeteal_fit(
+        previous.luma, 6, previous.chroma1, 2, previous.chroma2, 2, before,
+        own.luma, 6, own.chroma1, 2, own.chroma2, 2, pairs, next.luma, 6, next.chroma1, 2, next.chroma2, 2, after,
+        1, 1, 6, 2, false, 1, models, 4, &kept, 1, &cover, 1,
+        stored.luma, 2, stored.chroma1, 2, stored.chroma2, 2) == 0);
+    return stored;
+}
+
+/* A walk over a clip of so many pairs: each layer when it is due, and as it is by hand. */
+static void walk_over(size_t pairs) {
+    struct safeteal_walked at = safeteal_walk_start(1, 1, 1, pairs);
+    struct lent lent;
+    memset(&lent, 0x55, sizeof lent);
+    CHECK(at.word == 0 && at.walk.pairs == pairs && at.walk.added == 0 && at.walk.taken == 0);
+    for (size_t number = 0; number < pairs; number++) {
+        refused_at(at.walk, &lent, false);
+        at = handed(at.walk, &lent, number, RIGHT);
+        CHECK(at.word == 0 && at.walk.added == number + 1);
+        /* The layers whose next chunk is complete, or all. */
+        size_t ready = number + 1 == pairs ? (pairs + 11) / 12 : (number + 1) / 12 > 0 ? (number + 1) / 12 - 1 : 0;
+        while (at.walk.taken < ready) {
+            refused_at(at.walk, &lent, true);
+            size_t layer = at.walk.taken;
+            struct stored expected = by_hand(layer, pairs);
+            at = taken(at.walk, &lent, RIGHT);
+            CHECK(at.word == 0 && at.walk.taken == layer + 1 && at.walk.added == number + 1);
+            CHECK(memcmp(&lent.layer, &expected, sizeof expected) == 0 && lent.layer.luma[0] != 4096);
+        }
+    }
+    refused_at(at.walk, &lent, false);
+}
+
+static void walks(void) {
+    const size_t clips[] = {0, 1, 11, 12, 13, 24, 25, 30, 36, 40};
+    for (size_t clip = 0; clip < sizeof clips / sizeof *clips; clip++) {
+        walk_over(clips[clip]);
+    }
+    /* A refused start answers 0, and the clip's number of pairs is any. */
+    const struct safeteal_walk none = {0, 0, 0, 0, 0, 0};
+    CHECK(same_walk(safeteal_walk_start(4097, 1, 1, 9).walk, none));
+    CHECK(same_walk(safeteal_walk_start(5, 4, 2, 9).walk, none));
+    CHECK(safeteal_walk_start(4096, 4096, 4, SIZE_MAX).walk.pairs == SIZE_MAX);
+
+    /* Walks that no calls leave. */
+    const struct safeteal_walk astray[] = {
+        {1, 1, 1, 30, 31, 0}, {1, 1, 1, 30, 24, 2}, {1, 1, 1, 30, 25, 0}, {1, 1, 1, 30, 30, 4}, {1, 1, 1, 0, 0, 1},
+        {1, 1, 1, 30, SIZE_MAX, SIZE_MAX}, {1, 1, 1, SIZE_MAX, SIZE_MAX, 0},
+    };
+    struct lent lent;
+    memset(&lent, 0x55, sizeof lent);
+    for (size_t at = 0; at < sizeof astray / sizeof *astray; at++) {
+        CHECK(stays(SAFETEAL_REFUSED_TURN, astray[at], handed(astray[at], &lent, astray[at].added, RIGHT)));
+        CHECK(stays(SAFETEAL_REFUSED_TURN, astray[at], taken(astray[at], &lent, RIGHT)));
+        CHECK(safeteal_walk_due(astray[at]) == 0);
+    }
+    const struct safeteal_walk wide = {4097, 1, 1, 30, 24, 0}, odd = {1, 1, 2, 30, 24, 0};
+    CHECK(stays(SAFETEAL_REFUSED_SIZE, wide, handed(wide, &lent, 24, RIGHT)) && safeteal_walk_due(wide) == 0);
+    CHECK(stays(SAFETEAL_REFUSED_RATIO, odd, taken(odd, &lent, RIGHT)) && safeteal_walk_due(odd) == 0);
 }
 
 /* ---- assemble ---- */
@@ -529,6 +709,7 @@ int main(void) {
     nothing_lent();
     absent_neighbours();
     present_neighbours();
+    walks();
     totals();
     stats();
     lengths();

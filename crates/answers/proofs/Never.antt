@@ -8,6 +8,7 @@ use lib.Dec.{leb, eqb}
 use Rattle.rules.specs.Forms.{each}
 use Rattle.rules.specs.Refusals.{Table, firstFitting, statsRefusal, fitRefusal, assembleRefusal, distancesRefusal, emptyRefusal, peelRefusal, unpeelRefusal, renderRefusal, parcelWriteRefusal, maskRefusal, applyRefusal, holdRefusal}
 use Rattle.rules.specs.Parcel.{parcelReadRefusal, parcelSizesRefusal}
+use Rattle.rules.specs.Walk.{walkStartRefusal, walkPairRefusal, walkLayerRefusal}
 use Rattle.laws.proofs.Accepted.{both, number-passes}
 use Rattle.answers.specs.Never.{Other, NeverEight, NotAnswered}
 
@@ -22,7 +23,7 @@ by-rows t e =
     record { other = eqb-false _ _ (not-true _ (s .0)); byte = leb-true _ _ (s .1) }
 
 pub never-eight : NeverEight
-unfolding each isOther statsRefusal fitRefusal distancesRefusal assembleRefusal peelRefusal unpeelRefusal renderRefusal emptyRefusal maskRefusal applyRefusal holdRefusal parcelWriteRefusal parcelReadRefusal parcelSizesRefusal
+unfolding each isOther statsRefusal fitRefusal distancesRefusal assembleRefusal peelRefusal unpeelRefusal renderRefusal emptyRefusal maskRefusal applyRefusal holdRefusal parcelWriteRefusal parcelReadRefusal parcelSizesRefusal walkStartRefusal walkPairRefusal walkLayerRefusal
 never-eight =
     record {
       stats = λ c. by-rows _ refl;
@@ -39,6 +40,9 @@ never-eight =
       parcel-write = λ c. by-rows _ refl;
       parcel-read = λ c. by-rows _ refl;
       parcel-sizes = λ parcel. by-rows _ refl;
+      walk-start = λ size ratio. by-rows _ refl;
+      walk-pair = λ c. by-rows _ refl;
+      walk-layer = λ c. by-rows _ refl;
     }
 
 -- an answer with such a number, by any count

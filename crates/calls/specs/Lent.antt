@@ -5,8 +5,9 @@ use Prim.Native.Nat.{ℕ}
 use lib.IntN.{ℤ}
 use lib.Ieee.{Float}
 use Rattle.rules.specs.declared.Sums.{Sums}
-use Rattle.rules.specs.Forms.{Plane, Motion, Pair, Part, Parts, Fit, Layer, Frames, Mask}
-use Rattle.rules.specs.Calls.{StatsCall, FitCall, AssembleCall, PeelCall, UnpeelCall, RenderCall, ParcelWriteCall, ParcelReadCall, Settings, MaskCall, ApplyCall, HoldCall}
+use Rattle.rules.specs.declared.Walk.{Walk}
+use Rattle.rules.specs.Forms.{Plane, Motion, Pair, Slot, Part, Parts, Fit, Layer, Frames, Mask, part}
+use Rattle.rules.specs.Calls.{StatsCall, FitCall, AssembleCall, PeelCall, UnpeelCall, RenderCall, ParcelWriteCall, ParcelReadCall, WalkPairCall, WalkLayerCall, Settings, MaskCall, ApplyCall, HoldCall}
 
 -- ---- what is lent
 
@@ -50,11 +51,16 @@ listed t = t .p ∷ t .i ∷ t .pp ∷ t .pi ∷ t .ii ∷ t .apart ∷ []
 
 -- the three slices of a part, and its pairs
 abbrev pub partOf : (luma chroma1 chroma2 : List Float) → (pairs : ℕ) → Part
-partOf luma chroma1 chroma2 pairs = record { luma = luma; chroma = (chroma1, chroma2); pairs = pairs }
+partOf luma chroma1 chroma2 pairs = part (luma, chroma1, chroma2) pairs
 
 -- the own part between its neighbours
 abbrev pub partsOf : (previous own next : Part) → Parts
 partsOf previous own next = record { previous = previous; own = own; next = next }
+
+-- the nine slices of a walk's sums, slot by slot
+abbrev pub slotsOf : (luma0 chroma01 chroma02 luma1 chroma11 chroma12 luma2 chroma21 chroma22 : List Float) → List Slot
+slotsOf luma0 chroma01 chroma02 luma1 chroma11 chroma12 luma2 chroma21 chroma22 =
+    (luma0, chroma01, chroma02) ∷ (luma1, chroma11, chroma12) ∷ (luma2, chroma21, chroma22) ∷ []
 
 -- the three slices that fit and assemble fill
 abbrev pub fitOf : (luma chroma1 chroma2 : List ℤ) → Fit
@@ -99,6 +105,24 @@ parcelWriteCall layer parcel = record { layer = layer; parcel = parcel }
 
 abbrev pub parcelReadCall : (parcel : List ℕ) → (output : Fit) → ParcelReadCall
 parcelReadCall parcel output = record { parcel = parcel; output = output }
+
+-- a pair that a walk is handed, and a layer that is taken from it
+abbrev pub walkPairCall : Walk → List Slot → (number : ℕ) → Pair → WalkPairCall
+walkPairCall walk slots number pair = record { walk = walk; slots = slots; number = number; pair = pair }
+
+abbrev pub walkLayerCall : Walk → List Slot → (limit evidence : Float) → (strict : Bool) → (models : List Float) → (kept cover : List ℕ) → (output : Fit) → WalkLayerCall
+walkLayerCall walk slots limit evidence strict models kept cover output =
+    record {
+      walk = walk;
+      slots = slots;
+      limit = limit;
+      evidence = evidence;
+      strict = strict;
+      models = models;
+      kept = kept;
+      cover = cover;
+      output = output;
+    }
 
 -- mask's three settings
 abbrev pub settingsOf : (limit edge tolerance : Float) → Settings

@@ -30,7 +30,7 @@ few : (t : Table) → each (λ row. isByte (row .0)) t ≡ true → firstFitting
 unfolding isByte
 few t e = leb-true _ _ (number-passes isByte t refl e)
 
-low : (k n r : ℕ) → n ≤ 255 → r ≡ k * 256 + n → r % 256 ≡ 0 → n ≡ 0
+pub low : (k n r : ℕ) → n ≤ 255 → r ≡ k * 256 + n → r % 256 ≡ 0 → n ≡ 0
 low k n r = omega arith
 
 high : (k n r : ℕ) → n ≤ 255 → r ≡ k * 256 + n → r / 256 ≡ k

@@ -3,3 +3,4 @@ pub mod Others
 pub mod Parcels
 pub mod Casts
 pub mod Cells
+pub mod Walks

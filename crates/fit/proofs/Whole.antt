@@ -13,6 +13,7 @@ use Rattle.rules.specs.Fit.{rough, fitModels, fitCover, fitLeaves}
 use Rattle.plane.specs.Slices.{Slices}
 use Rattle.fit_refuse.specs.declared.Numbers.{Numbers}
 use Rattle.calls.specs.Lent.{fitOf}
+use Rattle.assemble_offsets.specs.declared.Sizes.{Sizes}
 use Rattle.assemble.specs.Call.{sizesOf}
 use Rattle.assemble_store.specs.Entries.{Stored}
 use Rattle.fit_refuse.specs.Call.{partsBy, fitBy}
@@ -42,24 +43,30 @@ module _ (sums : Slices Float) (n : Numbers) (models : List Float) (kept cover :
         cover-stays = λ f. refl;
       }
 
-  -- no row fits, and the models and the cover are made: the work slices are free
-  module _ (e : fitRefusal call ≡ 0) (models' : List Float) (kept' cover' : List ℕ) (made : Modelled (partsBy sums (n .pairs)) (sizesOf width height ratio) (n .settings) models' cover') where
+  -- no row fits, and the models and the cover are made
+  module _ (e : fitRefusal call ≡ 0) (g : Sizes) (sized : g ≡ sizesOf width height ratio)
+      (models' : List Float) (cover' : List ℕ) (made : Modelled (partsBy sums (n .pairs)) g (n .settings) models' cover') where
     models-are : modelSlice models' (width * height) ≡ fitModels call
     unfolding fitModels rough
-    models-are = made .models-are
+    models-are = rw sized at (made .models-are)
 
     cover-is : cover' ≡ fitCover call
     unfolding fitCover rough
-    cover-is = made .cover-is
+    cover-is = rw sized at (made .cover-is)
 
-    pub ran : (luma' first' second' : List ℤ) → Stored (assembled (modelSlice models' (width * height)) cover' (width, height) ratio) luma' first' second'
-        → FitAnswered call models' kept' cover' luma' first' second' (record { number = 0; count = 0 })
+    pub stored : (luma' first' second' : List ℤ) → Stored (assembled (modelSlice models' (g .width * g .height)) cover' (g .width, g .height) (g .ratio)) luma' first' second'
+        → Stored (fitLeaves call) luma' first' second'
     unfolding fitLeaves
-    ran luma' first' second' done =
-        record {
-          answer = rw e;
-          slices = rw e (rw (models-are, cover-is) at done);
-          models-stay = λ f. absurd (false≢true (sym f));
-          kept-stays = λ f. absurd (false≢true (sym f));
-          cover-stays = λ f. absurd (false≢true (sym f));
-        }
+    stored luma' first' second' done = rw e (rw (sized, models-are, cover-is) at done)
+
+  -- all is stored: the work slices are free
+  pub ran : (r : ℕ) → r ≡ fitRefusal call → r ≡ 0 → (models' : List Float) (kept' cover' : List ℕ) (luma' first' second' : List ℤ)
+      → Stored (fitLeaves call) luma' first' second' → FitAnswered call models' kept' cover' luma' first' second' (record { number = 0; count = 0 })
+  ran r e z models' kept' cover' luma' first' second' done =
+      record {
+        answer = rw (← e, z);
+        slices = done;
+        models-stay = λ f. absurd (false≢true (sym f));
+        kept-stays = λ f. absurd (false≢true (sym f));
+        cover-stays = λ f. absurd (false≢true (sym f));
+      }

@@ -4,7 +4,11 @@ use assemble_offsets::Sizes;
 use fit_refuse::Numbers;
 use fit_trial::Settings;
 use rules::Answer;
+ghost use mathlib.Core.Path.{_≡_};
+ghost use Rattle.rules.specs.Refusals.{fitRefusal};
+ghost use Rattle.rules.specs.Fit.{fitLeaves};
 ghost use Rattle.calls.specs.Lent.{fitOf};
+ghost use Rattle.assemble_store.specs.Entries.{Stored};
 ghost use Rattle.fit_refuse.specs.Call.{partsBy, fitBy};
 ghost use Rattle.fit.specs.Call.{Asks, Modelled, FitAnswered};
 
@@ -34,6 +38,29 @@ fn fitted(
     distances::distances(cover, table::cells(width));
 }
 
+// Fits what is not refused.
+pub fn made(
+    models: &mut [f32],
+    kept: &mut [u8],
+    cover: &mut [u8],
+    luma: &mut [i16],
+    chroma1: &mut [i16],
+    chroma2: &mut [i16],
+    sums: [&[f32]; 9],
+    numbers: Numbers,
+)
+    requires { ⌜ fitRefusal (fitBy sums numbers (now models) (now kept) (now cover) (fitOf (now luma) (now chroma1) (now chroma2))) ≡ 0 ⌝ }
+    ensures { λ _. ⌜
+        Stored (fitLeaves (fitBy (sums .entry) numbers (now (models .entry)) (now (kept .entry)) (now (cover .entry))
+        (fitOf (now (luma .entry)) (now (chroma1 .entry)) (now (chroma2 .entry)))))
+        (now (luma .exit)) (now (chroma1 .exit)) (now (chroma2 .exit)) ⌝ }
+{
+    let sizes = assemble::sizes_of(numbers.width, numbers.height, numbers.ratio);
+    let pairs = numbers.pairs;
+    fitted(models, kept, cover, sums, sizes, pairs, numbers.settings);
+    assemble_store::store(luma, chroma1, chroma2, sizes, models, cover);
+}
+
 // Fits, or refuses: the contract is the equation for both.
 pub fn fit(
     models: &mut [f32],
@@ -54,10 +81,7 @@ pub fn fit(
     if number != 0 {
         return Answer { number, count: 0 };
     }
-    let sizes = assemble::sizes_of(numbers.width, numbers.height, numbers.ratio);
-    let pairs = numbers.pairs;
-    fitted(models, kept, cover, sums, sizes, pairs, numbers.settings);
-    assemble_store::store(luma, chroma1, chroma2, sizes, models, cover);
+    made(models, kept, cover, luma, chroma1, chroma2, sums, numbers);
     Answer {
         number: 0,
         count: 0,

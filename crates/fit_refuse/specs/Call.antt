@@ -1,18 +1,15 @@
--- A call of fit over its slices, and the rows of its table that its numbers answer for.
+-- A call of fit over its slices, and the rows of its table that its pairs answer for.
 use mathlib.Core.Bool.{_&&_}
-use mathlib.Core.List.{List, _∷_}
+use mathlib.Core.List.{List, [], _∷_}
 use Prim.Native.Nat.{ℕ, _+_, _*_}
 use lib.Dec.{leb}
 use lib.ListN.{getD}
 use lib.Ieee.{Float}
 use Rattle.rules.specs.Forms.{Part, Parts, Fit}
-use Rattle.rules.specs.Literals.{0·0, 0·5, 255·0, 65536·0}
-use Rattle.rules.specs.Float.{within}
 use Rattle.rules.specs.Calls.{FitCall}
 use Rattle.rules.specs.Refusals.{Table, _unless_}
 use Rattle.calls.specs.Lent.{partOf, partsOf, fitCall}
 use Rattle.plane.specs.Slices.{Slices, slice}
-use Rattle.fit_trial.specs.declared.Settings.{Settings}
 use Rattle.fit_refuse.specs.declared.Numbers.{Numbers}
 
 -- part k of the previous, own and next one
@@ -22,17 +19,18 @@ partBy sums pairs k = partOf (slice sums (3 * k)) (slice sums (3 * k + 1)) (slic
 abbrev pub partsBy : (sums : Slices Float) → (pairs : List ℕ) → Parts
 partsBy sums pairs = partsOf (partBy sums pairs 0) (partBy sums pairs 1) (partBy sums pairs 2)
 
--- the call
-abbrev pub fitBy : (sums : Slices Float) → Numbers → List Float → (kept cells' : List ℕ) → Fit → FitCall
-fitBy sums n models kept cells' output =
-    fitCall (partsBy sums (n .pairs)) (n .width) (n .height) (n .ratio) (n .settings .limit) (n .settings .evidence) (n .settings .strict) models kept cells' output
+-- the call, of these parts
+abbrev pub fitWith : Parts → Numbers → List Float → (kept cells' : List ℕ) → Fit → FitCall
+fitWith parts n models kept cells' output =
+    fitCall parts (n .width) (n .height) (n .ratio) (n .settings .limit) (n .settings .evidence) (n .settings .strict) models kept cells' output
 
--- rows of its table, before the rest: the limit, the evidence figure and the pairs
-abbrev pub settingRows : Settings → (pairs : List ℕ) → (rest : Table) → Table
-settingRows s pairs rest =
-    (6 unless within (s .limit) 0·5 255·0)
-    ∷ (6 unless within (s .evidence) 0·0 65536·0)
-    ∷ (7 unless leb (getD pairs 0 0) 12)
+abbrev pub fitBy : (sums : Slices Float) → Numbers → List Float → (kept cells' : List ℕ) → Fit → FitCall
+fitBy sums n models kept cells' output = fitWith (partsBy sums (n .pairs)) n models kept cells' output
+
+-- the last rows of its table: the pairs of its parts
+abbrev pub countRows : (pairs : List ℕ) → Table
+countRows pairs =
+    (7 unless leb (getD pairs 0 0) 12)
     ∷ (7 unless leb 1 (getD pairs 1 0) && leb (getD pairs 1 0) 12)
     ∷ (7 unless leb (getD pairs 2 0) 12)
-    ∷ rest
+    ∷ []

@@ -8,9 +8,11 @@ use mir.Syntax.{w32}
 use mir.Val.{toZ, ofZ, SFits}
 use mir.Facts.{toZ-ofZ}
 use Rattle.rules.specs.declared.Answer.{Answer}
-use Rattle.rules.specs.Forms.{Motion}
-use Rattle.rules.specs.Calls.{StatsCall}
+use Rattle.rules.specs.declared.Walked.{Walked}
+use Rattle.rules.specs.Forms.{Motion, Slot}
+use Rattle.rules.specs.Calls.{StatsCall, WalkPairCall}
 use Rattle.calls.specs.Lent.{motionBy}
+use Rattle.told.specs.Told.{PairTold}
 use Rattle.stats.specs.Answered.{StatsAnswered}
 
 -- a number from its 32 bits
@@ -27,3 +29,8 @@ read-back fx fy bx by gw gh a b c d e = rw (toZ-ofZ a, toZ-ofZ b, toZ-ofZ c, toZ
 pub by-motion : (c : StatsCall) (m : Motion) {luma chroma1 chroma2 : List Float} {r : Answer} → c .pair .motion ≡ m → StatsAnswered c luma chroma1 chroma2 r
     → StatsAnswered (record { sums = c .sums; size = c .size; ratio = c .ratio; pair = record { first = c .pair .first; second = c .pair .second; motion = m } }) luma chroma1 chroma2 r
 by-motion c m e d = rw (← e) d
+
+-- the same of a pair that a walk is handed
+pub handed-by-motion : (c : WalkPairCall) (m : Motion) {slots : List Slot} {r : Walked} → c .pair .motion ≡ m → PairTold c slots r
+    → PairTold (record { walk = c .walk; slots = c .slots; number = c .number; pair = record { first = c .pair .first; second = c .pair .second; motion = m } }) slots r
+handed-by-motion c m e d = rw (← e) d

@@ -4,6 +4,8 @@ use fit_trial::Settings;
 use layer_lent::Shape;
 use motion::Grid;
 use rules::Sizes;
+use rules::Walk;
+use rules::Walked;
 ghost use mathlib.Core.Path.{_≡_};
 ghost use Rattle.rules.specs.Forms.{uncounted};
 ghost use Rattle.rules.specs.Calls.{DistancesCall};
@@ -20,10 +22,11 @@ ghost use Rattle.rules.specs.Stats.{statsLeaves};
 ghost use Rattle.rules.specs.Still.{maskLeaves, applyLeaves, holdLeaves};
 ghost use Rattle.rules.specs.Host.{numbers, replyWord};
 ghost use Rattle.rules.specs.Parcel.{parcelWriteLeaves, parcelSizesAnswer};
-ghost use Rattle.calls.specs.Lent.{planeOf, maskOf, framesOf, layerOf, motionBy, pairOf, partOf, partsOf, fitOf};
-ghost use Rattle.calls.specs.Lent.{statsCall, fitCall, assembleCall, peelCall, unpeelCall, renderCall, parcelWriteCall, settingsOf, maskCall, applyCall, holdCall};
+ghost use Rattle.rules.specs.Walk.{walkStartAnswer, walkDueWord};
+ghost use Rattle.calls.specs.Lent.{planeOf, maskOf, framesOf, layerOf, motionBy, pairOf, partOf, partsOf, slotsOf, fitOf};
+ghost use Rattle.calls.specs.Lent.{statsCall, fitCall, assembleCall, peelCall, unpeelCall, renderCall, parcelWriteCall, walkPairCall, walkLayerCall, settingsOf, maskCall, applyCall, holdCall};
 ghost use Rattle.parcel_read.specs.Read.{readBy, ReadTold};
-ghost use Rattle.told.specs.Told.{Told, ToldThree, WorkStays};
+ghost use Rattle.told.specs.Told.{Told, ToldThree, WorkStays, PairTold, LayerTold};
 
 #[no_mangle]
 pub extern "C" fn safeteal_distances(cells: &mut [u8], width: usize) -> u64
@@ -673,6 +676,189 @@ pub extern "C" fn safeteal_parcel_sizes(parcel: &[u8]) -> Sizes
     ensures { λ r. ⌜ r ≡ parcelSizesAnswer (now (parcel .entry)) ⌝ }
 {
     parcel_read::sizes_of(parcel)
+}
+
+#[no_mangle]
+pub extern "C" fn safeteal_walk_start(
+    width: usize,
+    height: usize,
+    ratio: usize,
+    pairs: usize,
+) -> Walked
+    ensures { λ r. ⌜ r ≡ walkStartAnswer (width, height) ratio pairs ⌝ }
+{
+    walk_state::start(width, height, ratio, pairs)
+}
+
+// Of the sums, `chroma12` are those of plane 2 in slot 1.
+#[no_mangle]
+pub extern "C" fn safeteal_walk_pair<'f, 'm>(
+    walk: Walk,
+    luma0: &mut [f32],
+    chroma01: &mut [f32],
+    chroma02: &mut [f32],
+    luma1: &mut [f32],
+    chroma11: &mut [f32],
+    chroma12: &mut [f32],
+    luma2: &mut [f32],
+    chroma21: &mut [f32],
+    chroma22: &mut [f32],
+    number: usize,
+    first0: &'f [u8],
+    first0_pitch: usize,
+    first1: &'f [u8],
+    first1_pitch: usize,
+    first2: &'f [u8],
+    first2_pitch: usize,
+    second0: &'f [u8],
+    second0_pitch: usize,
+    second1: &'f [u8],
+    second1_pitch: usize,
+    second2: &'f [u8],
+    second2_pitch: usize,
+    forward_x: &'m [u16],
+    forward_y: &'m [u16],
+    backward_x: &'m [u16],
+    backward_y: &'m [u16],
+    grid_width: usize,
+    grid_height: usize,
+    block_width: i32,
+    block_height: i32,
+    origin_x: i32,
+    origin_y: i32,
+    pel: i32,
+) -> Walked
+    ensures { λ r. ⌜
+        (let c = walkPairCall walk
+        (slotsOf
+        (now (luma0 .entry)) (now (chroma01 .entry)) (now (chroma02 .entry))
+        (now (luma1 .entry)) (now (chroma11 .entry)) (now (chroma12 .entry))
+        (now (luma2 .entry)) (now (chroma21 .entry)) (now (chroma22 .entry)))
+        number
+        (pairOf
+        (planeOf (now (first0 .entry)) «first0_pitch»)
+        (planeOf (now (first1 .entry)) «first1_pitch»)
+        (planeOf (now (first2 .entry)) «first2_pitch»)
+        (planeOf (now (second0 .entry)) «second0_pitch»)
+        (planeOf (now (second1 .entry)) «second1_pitch»)
+        (planeOf (now (second2 .entry)) «second2_pitch»)
+        (motionBy
+        (now («forward_x» .entry)) (now («forward_y» .entry)) (now («backward_x» .entry)) (now («backward_y» .entry))
+        «grid_width» «grid_height» «block_width» «block_height» «origin_x» «origin_y» pel)) in
+        PairTold c
+        (slotsOf
+        (now (luma0 .exit)) (now (chroma01 .exit)) (now (chroma02 .exit))
+        (now (luma1 .exit)) (now (chroma11 .exit)) (now (chroma12 .exit))
+        (now (luma2 .exit)) (now (chroma21 .exit)) (now (chroma22 .exit)))
+        r) ⌝ }
+{
+    let grid = Grid {
+        width: grid_width,
+        height: grid_height,
+        block_width,
+        block_height,
+        origin_x,
+        origin_y,
+        pel,
+    };
+    let numbers = walk_pair::Numbers {
+        number,
+        first: [first0_pitch, first1_pitch, first2_pitch],
+        second: [second0_pitch, second1_pitch, second2_pitch],
+        grid,
+    };
+    let fields = [forward_x, forward_y, backward_x, backward_y];
+    let first = [first0, first1, first2];
+    let second = [second0, second1, second2];
+    walk_pair::pair(
+        luma0,
+        chroma01,
+        chroma02,
+        luma1,
+        chroma11,
+        chroma12,
+        luma2,
+        chroma21,
+        chroma22,
+        walk,
+        first,
+        second,
+        fields,
+        numbers,
+    )
+}
+
+// What the work slices (models, kept, cover) hold after acceptance is left free, as in fit.
+#[no_mangle]
+pub extern "C" fn safeteal_walk_layer<'s>(
+    walk: Walk,
+    luma0: &'s [f32],
+    chroma01: &'s [f32],
+    chroma02: &'s [f32],
+    luma1: &'s [f32],
+    chroma11: &'s [f32],
+    chroma12: &'s [f32],
+    luma2: &'s [f32],
+    chroma21: &'s [f32],
+    chroma22: &'s [f32],
+    limit: f32,
+    evidence: f32,
+    strict: bool,
+    models: &mut [f32],
+    kept: &mut [u8],
+    cover: &mut [u8],
+    luma: &mut [i16],
+    chroma1: &mut [i16],
+    chroma2: &mut [i16],
+) -> Walked
+    ensures { λ r. ⌜
+        (let c = walkLayerCall walk
+        (slotsOf
+        (now (luma0 .entry)) (now (chroma01 .entry)) (now (chroma02 .entry))
+        (now (luma1 .entry)) (now (chroma11 .entry)) (now (chroma12 .entry))
+        (now (luma2 .entry)) (now (chroma21 .entry)) (now (chroma22 .entry)))
+        limit evidence strict
+        (now (models .entry)) (now (kept .entry)) (now (cover .entry))
+        (fitOf (now (luma .entry)) (now (chroma1 .entry)) (now (chroma2 .entry))) in
+        LayerTold c
+        (now (models .exit)) (now (kept .exit)) (now (cover .exit))
+        (fitOf (now (luma .exit)) (now (chroma1 .exit)) (now (chroma2 .exit))) r) ⌝ }
+{
+    let sums = [
+        luma0,
+        chroma01,
+        chroma02,
+        luma1,
+        chroma11,
+        chroma12,
+        luma2,
+        chroma21,
+        chroma22,
+    ];
+    let settings = Settings {
+        limit,
+        evidence,
+        strict,
+    };
+    walk_layer::layer(
+        models,
+        kept,
+        cover,
+        luma,
+        chroma1,
+        chroma2,
+        walk,
+        sums,
+        settings,
+    )
+}
+
+// The yes stands in the count's place, as in empty.
+#[no_mangle]
+pub extern "C" fn safeteal_walk_due(walk: Walk) -> u64
+    ensures { λ r. ⌜ r ≡ walkDueWord walk ⌝ }
+{
+    told::yes(walk_state::asked(walk))
 }
 
 // The final rounding and the storing by themselves, for a run over all floats.

@@ -1,6 +1,6 @@
 -- What each call is lent: numbers, and what its slices hold before. (`empty` is lent a layer, and nothing else.)
-use Rattle.rules.specs.Words.{Bool, List, ℕ, ℤ, Float}
-use Rattle.rules.specs.Forms.{Plane, Motion, Pair, Part, Parts, Fit, Layer, Frames, Mask}
+use Rattle.rules.specs.Words.{Bool, List, ℕ, ℤ, Float, Walk}
+use Rattle.rules.specs.Forms.{Plane, Motion, Pair, Slot, Part, Parts, Fit, Layer, Frames, Mask}
 
 -- sums, with the pairs summed already, to which one pair is added
 pub record StatsCall : Type 0 where
@@ -66,6 +66,26 @@ pub record ParcelWriteCall : Type 0 where
 -- a parcel as it came, and `output` what is filled
 pub record ParcelReadCall : Type 0 where
   pub parcel : List ℕ
+  pub output : Fit
+
+-- "They give .. each pair with its own number from 0" (02): a walk as the call before left it, the `slots` that hold
+-- the sums of its "three parts", and a pair
+pub record WalkPairCall : Type 0 where
+  pub walk : Walk
+  pub slots : List Slot
+  pub number : ℕ
+  pub pair : Pair
+
+-- "Due layers are taken .. one by each call with fit's settings" (02): the same, and what fit is lent besides
+pub record WalkLayerCall : Type 0 where
+  pub walk : Walk
+  pub slots : List Slot
+  pub limit : Float
+  pub evidence : Float
+  pub strict : Bool
+  pub models : List Float
+  pub kept : List ℕ
+  pub cover : List ℕ
   pub output : Fit
 
 -- "the three settings of `mask`"

@@ -1,6 +1,6 @@
 -- "Domain": what sizes, pitches, lengths and settings must be; lengths are "reckoned in whole numbers, never wrapped".
 use Rattle.rules.specs.Words.{Bool, _&&_, _||_, List, ℕ, _+_, _-_, _*_, _/_, _%_, leb, eqb, ℤ, pos, negℤ, leZ, length, Float}
-use Rattle.rules.specs.Forms.{Plane, Motion, Part, Fit, Layer, Mask, cells, area, shrunk, each, isNumber}
+use Rattle.rules.specs.Forms.{Plane, Motion, Slot, Part, Fit, Layer, Mask, cells, area, shrunk, each, isNumber}
 use Rattle.rules.specs.Literals.{0·0, 1·0}
 use Rattle.rules.specs.Float.{within}
 
@@ -96,6 +96,10 @@ areExact luma chroma lengths =
 -- the sums of a part
 abbrev pub areSums : Part → ℕ × ℕ → (ratio : ℕ) → Bool
 areSums p size ratio = areExact (p .luma) (p .chroma) (sumsLength size, chromaSumsLength size ratio)
+
+-- the sums of each of a walk's parts (02), three of which are lent, whether a chunk lies there or not
+abbrev pub areSlots : List Slot → ℕ × ℕ → (ratio : ℕ) → Bool
+areSlots slots size ratio = each (λ s. areExact (s .0) (s .1, s .2) (sumsLength size, chromaSumsLength size ratio)) slots
 
 -- outputs of fit and assemble
 abbrev pub isFit : Fit → ℕ × ℕ → (ratio : ℕ) → Bool

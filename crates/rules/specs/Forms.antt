@@ -32,11 +32,23 @@ pub record Part : Type 0 where
   pub chroma : List Float × List Float
   pub pairs : ℕ
 
+-- the slices of a part without its pairs: luma's sums, and those of planes 1 and 2
+abbrev pub Slot : Type 0
+Slot = List Float × List Float × List Float
+
+-- a part of these slices and so many pairs
+abbrev pub part : Slot → (pairs : ℕ) → Part
+part s pairs = record { luma = s .0; chroma = (s .1, s .2); pairs = pairs }
+
 -- the own part and its neighbours; "0 marks an absent neighbour"
 pub record Parts : Type 0 where
   pub previous : Part
   pub own : Part
   pub next : Part
+
+-- no part
+abbrev pub absent : Part
+absent = part ([], [], []) 0
 
 -- what fit and assemble store
 pub record Fit : Type 0 where

@@ -21,3 +21,4 @@ pub mod Stats
 pub mod Still
 pub mod Host
 pub mod Parcel
+pub mod Walk

@@ -16,8 +16,8 @@ asLeft f size ratio =
 abbrev pub cell : Layer → (x y : ℕ) → ℤ
 cell l x y = getD (l .chroma .1) ((l .size .1 / l .ratio + y) * l .pitch .1 + x) (pos 0)
 
--- the distance stored for a pixel of a plane, that of its cell: "A pixel's cell is its column and row divided by the cell
--- side, 8, 4 or 2, both cut." A cell is 8 luma pixels wide.
+-- the distance stored for a pixel of a plane, that of its cell: "A pixel's cell is its column and row divided by the
+-- cell side, 8, 4 or 2, both cut." A cell is 8 luma pixels wide.
 unfoldable pub distance : Layer → (plane x y : ℕ) → ℤ
 distance l plane x y =
     let side = 8 / planeRatio l plane in

@@ -52,23 +52,37 @@ lumas p = p .first .0 ∷ p .second .0 ∷ []
 abbrev pub chromas : Pair → List Plane
 chromas p = p .first .1 ∷ p .first .2 ∷ p .second .1 ∷ p .second .2 ∷ []
 
--- "12 or more pairs already summed in stats"
-unfoldable pub statsRefusal : StatsCall → ℕ
-statsRefusal c =
+-- a pair that is added to sums, whose lengths are right or not
+abbrev pub pairRows : StatsCall → (sums : Bool) → (rest : Table) → Table
+pairRows c sums rest =
     let chromaSize = shrunk (c .size) (c .ratio) in
-    firstFitting (sizeRows (c .size) (c .ratio) (
+    sizeRows (c .size) (c .ratio) (
     (3 unless havePitches (lumas (c .pair)) (c .size))
     ∷ (3 unless havePitches (chromas (c .pair)) chromaSize)
     ∷ (4 unless haveLengths (lumas (c .pair)) (c .size))
     ∷ (4 unless haveLengths (chromas (c .pair)) chromaSize)
-    ∷ (4 unless areSums (c .sums) (c .size) (c .ratio))
-    ∷ motionRows (c .pair .motion) (
-    (7 unless leb (c .sums .pairs) 11)
-    ∷ [])))
+    ∷ (4 unless sums)
+    ∷ motionRows (c .pair .motion) rest)
+
+-- "12 or more pairs already summed in stats"
+unfoldable pub statsRefusal : StatsCall → ℕ
+statsRefusal c = firstFitting (pairRows c (areSums (c .sums) (c .size) (c .ratio)) ((7 unless leb (c .sums .pairs) 11) ∷ []))
 
 -- a neighbour: "0 marks an absent neighbour, whose slices aren't looked at"
 abbrev pub isNeighbour : Part → ℕ × ℕ → (ratio : ℕ) → Bool
 isNeighbour p size ratio = eqb (p .pairs) 0 || areSums p size ratio
+
+-- fit's work slices and outputs, and its settings
+abbrev pub workRows : FitCall → (rest : Table) → Table
+workRows c rest =
+    let size = c .size in
+    (4 unless areModels (c .models) size)
+    ∷ (4 unless eqb (length (c .kept)) (keptLength size))
+    ∷ (4 unless isCover (c .cover) size)
+    ∷ (4 unless isFit (c .output) size (c .ratio))
+    ∷ (6 unless within (c .limit) 0·5 255·0)
+    ∷ (6 unless within (c .evidence) 0·0 65536·0)
+    ∷ rest
 
 -- fit: "pairs above 12; own part 0"
 unfoldable pub fitRefusal : FitCall → ℕ
@@ -79,16 +93,11 @@ fitRefusal c =
     (4 unless isNeighbour (parts .previous) size (c .ratio))
     ∷ (4 unless areSums (parts .own) size (c .ratio))
     ∷ (4 unless isNeighbour (parts .next) size (c .ratio))
-    ∷ (4 unless areModels (c .models) size)
-    ∷ (4 unless eqb (length (c .kept)) (keptLength size))
-    ∷ (4 unless isCover (c .cover) size)
-    ∷ (4 unless isFit (c .output) size (c .ratio))
-    ∷ (6 unless within (c .limit) 0·5 255·0)
-    ∷ (6 unless within (c .evidence) 0·0 65536·0)
-    ∷ (7 unless leb (parts .previous .pairs) 12)
+    ∷ workRows c (
+    (7 unless leb (parts .previous .pairs) 12)
     ∷ (7 unless leb 1 (parts .own .pairs) && leb (parts .own .pairs) 12)
     ∷ (7 unless leb (parts .next .pairs) 12)
-    ∷ []))
+    ∷ [])))
 
 -- assemble: models, a cover, and the slices that it fills
 unfoldable pub assembleRefusal : AssembleCall → ℕ

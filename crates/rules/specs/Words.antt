@@ -26,3 +26,5 @@ pub use Rattle.rules.specs.declared.Steps.{Steps}
 pub use Rattle.rules.specs.declared.Taps.{Taps}
 pub use Rattle.rules.specs.declared.Trial.{Trial}
 pub use Rattle.rules.specs.declared.Trial.the-variants.{All, PreviousOwn, OwnNext}
+pub use Rattle.rules.specs.declared.Walk.{Walk}
+pub use Rattle.rules.specs.declared.Walked.{Walked}

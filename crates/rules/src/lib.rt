@@ -53,6 +53,25 @@ pub struct Sizes {
     pub ratio: usize,
 }
 
+// A walk over a clip, as each of its calls gets it and answers it: luma's size and the ratio, the clip's number of
+// pairs, how many of these were added, and how many layers were taken. It passes to C as it stands.
+#[repr(C)]
+pub struct Walk {
+    pub width: usize,
+    pub height: usize,
+    pub ratio: usize,
+    pub pairs: usize,
+    pub added: usize,
+    pub taken: usize,
+}
+
+// What a call of a walk answers: its answer as one number, and the walk. It passes to C as it stands.
+#[repr(C)]
+pub struct Walked {
+    pub word: u64,
+    pub walk: Walk,
+}
+
 // The Rust's tuples on the way to those answers.
 
 // Six sums, or the six terms that a pair of frames adds to them, over moved samples p and the samples i in their place:

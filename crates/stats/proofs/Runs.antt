@@ -4,7 +4,7 @@ use mathlib.Core.Path.{_≡_, refl}
 use mathlib.Core.List.{List, [], _∷_}
 use mathlib.Core.Logic.{inl, inr}
 use mathlib.Core.Bool.{Bool, true, _&&_}
-use Prim.Native.Nat.{ℕ, _*_, _/_, _≤_}
+use Prim.Native.Nat.{ℕ, _*_, _≤_}
 use native.Mathlib.Omega.{arith}
 use lib.ListN.{length, getD}
 use lib.Ieee.{Float}
@@ -20,6 +20,7 @@ use Rattle.stats_gather.specs.Sums.{Gathers, passOf, allAdded}
 use Rattle.stats_refuse.specs.declared.Numbers.{Numbers}
 use Rattle.stats_refuse.specs.Call.{planeAt, statsBy}
 use Rattle.motion_limits.proofs.Accepted.{plane-in, moves-in}
+use Rattle.stats.specs.Answered.{taskOf, chromaTask}
 
 -- each of two, or of four
 two : (a b : Bool) → (a && (b && true)) ≡ true → (a ≡ true) × (b ≡ true)
@@ -31,19 +32,14 @@ four a b c d e =
     let u = both b (c && (d && true)) (t .1) in
     ((t .0, u .0), two c d (u .1))
 
--- the pass over plane k of both frames
+-- plane k of both frames
 abbrev pub onto : (first second : Slices ℕ) → (k : ℕ) → Slices ℕ
 onto first second k = at first k ∷ (at second k ∷ [])
 
-abbrev pub task : Numbers → (k many : ℕ) → (size : ℕ × ℕ) → (ratio : ℕ) → Task
-task n k many size ratio =
-    record { many = many; pairs = n .pairs; width = size .0; height = size .1; ratio = ratio; first = getD (n .first) k 0; second = getD (n .second) k 0; grid = n .grid }
-
--- a chroma plane's size by its numbers
-pub shrinks : (first second fields : Slices ℕ) (n : Numbers) (k across down : ℕ) (sums : List Float) → across ≡ n .width / n .ratio → down ≡ n .height / n .ratio
-    → let small = task n k 2 (across, down) (n .ratio) in let chromaSize = task n k 2 (shrunk (n .width, n .height) (n .ratio)) (n .ratio) in
-    allAdded small (passOf (onto first second k) fields small) sums ≡ allAdded chromaSize (passOf (onto first second k) fields chromaSize) sums
-shrinks first second fields n k across down sums a d = rw (a, d)
+-- the pass by a task that is known
+pub by : (first second fields : Slices ℕ) (k : ℕ) (sums : List Float) {t u : Task} → t ≡ u
+    → allAdded t (passOf (onto first second k) fields t) sums ≡ allAdded u (passOf (onto first second k) fields u) sums
+by first second fields k sums e = rw e
 
 module _ (luma chroma1 chroma2 : List Float) (first second fields : Slices ℕ) (n : Numbers) where
   abbrev call : StatsCall
@@ -57,9 +53,9 @@ module _ (luma chroma1 chroma2 : List Float) (first second fields : Slices ℕ) 
 
   -- what the three passes ask
   pub record Runs : Type 0 where
-    pub on-luma : Gathers (onto first second 0) fields (task n 0 6 size 1)
-    pub on-first : Gathers (onto first second 1) fields (task n 1 2 chromaSize (n .ratio))
-    pub on-second : Gathers (onto first second 2) fields (task n 2 2 chromaSize (n .ratio))
+    pub on-luma : Gathers (onto first second 0) fields (taskOf n 0 6 size 1)
+    pub on-first : Gathers (onto first second 1) fields (chromaTask n 1)
+    pub on-second : Gathers (onto first second 2) fields (chromaTask n 2)
     pub luma-long : length luma ≡ 6 * area size
     pub first-long : length chroma1 ≡ 2 * area chromaSize
     pub second-long : length chroma2 ≡ 2 * area chromaSize
@@ -68,7 +64,7 @@ module _ (luma chroma1 chroma2 : List Float) (first second fields : Slices ℕ) 
       → (k many : ℕ) (size : ℕ × ℕ) (ratio : ℕ) → SixOrTwo many → ratio ≤ 4 → Side (size .0) → Side (size .1)
       → (isPitch (getD (n .first) k 0) (size .0) ≡ true) × (isPitch (getD (n .second) k 0) (size .0) ≡ true)
       → (isPlane (planeAt first (n .first) k) size ≡ true) × (isPlane (planeAt second (n .second) k) size ≡ true)
-      → Gathers (onto first second k) fields (task n k many size ratio)
+      → Gathers (onto first second k) fields (taskOf n k many size ratio)
   passing t k many size ratio kind few wide tall p l =
       record {
         first-fits = plane-in (slice first k) (getD (n .first) k 0) (size .0) (size .1) wide tall (p .0) (l .0);

@@ -4,7 +4,7 @@ use mathlib.Core.List.{List}
 use Prim.Native.Nat.{ℕ}
 use lib.ListN.{getD}
 use lib.Ieee.{Float}
-use Rattle.rules.specs.Forms.{Plane, Pair}
+use Rattle.rules.specs.Forms.{Plane, Pair, Part}
 use Rattle.rules.specs.Calls.{StatsCall}
 use Rattle.rules.specs.Domain.{isPlane}
 use Rattle.calls.specs.Lent.{planeOf, partOf, pairOf, statsCall}
@@ -22,10 +22,12 @@ pairBy first second fields n =
     pairOf (planeAt first (n .first) 0) (planeAt first (n .first) 1) (planeAt first (n .first) 2)
     (planeAt second (n .second) 0) (planeAt second (n .second) 1) (planeAt second (n .second) 2) (motionOf fields (n .grid))
 
--- the call
+-- the call, to these sums
+abbrev pub callBy : Part → (first second fields : Slices ℕ) → Numbers → StatsCall
+callBy sums first second fields n = statsCall sums (n .width) (n .height) (n .ratio) (pairBy first second fields n)
+
 abbrev pub statsBy : (luma chroma1 chroma2 : List Float) → (first second fields : Slices ℕ) → Numbers → StatsCall
-statsBy luma chroma1 chroma2 first second fields n =
-    statsCall (partOf luma chroma1 chroma2 (n .pairs)) (n .width) (n .height) (n .ratio) (pairBy first second fields n)
+statsBy luma chroma1 chroma2 first second fields n = callBy (partOf luma chroma1 chroma2 (n .pairs)) first second fields n
 
 -- the lengths of the chroma planes
 abbrev pub fourPlanes : (first second : Slices ℕ) → Numbers → (size : ℕ × ℕ) → Bool

@@ -3,9 +3,11 @@ use motion::Grid;
 ghost use mathlib.Core.Path.{_≡_};
 ghost use mathlib.Core.Bool.{_&&_, true};
 ghost use Rattle.rules.specs.Domain.{isPitch, isPlane};
-ghost use Rattle.rules.specs.Refusals.{statsRefusal};
+ghost use Rattle.rules.specs.Forms.{absent};
+ghost use Rattle.rules.specs.Refusals.{Table, firstFitting, motionRows, pairRows, statsRefusal};
 ghost use Rattle.calls.specs.Lent.{planeOf};
-ghost use Rattle.stats_refuse.specs.Call.{fourPlanes, statsBy};
+ghost use Rattle.motion.specs.Moves.{motionOf};
+ghost use Rattle.stats_refuse.specs.Call.{fourPlanes, callBy, statsBy};
 
 // The numbers of a call: the pairs before, luma's size and the ratio, the pitches of each frame's
 // planes, and what the motion is laid out by.
@@ -83,27 +85,34 @@ fn four_planed(
     )
 }
 
-// The number of a call's refusal, or 0.
-pub fn stats_refusal(
-    luma: &[f32],
-    chroma1: &[f32],
-    chroma2: &[f32],
+// The number of a refusal of a motion, or else `rest`.
+fn motion_refusal(fields: [&[u16]; 4], grid: Grid, rest: u8) -> u8
+    ensures { λ r. ⌜ ((rows : Table) → rest ≡ firstFitting rows → r ≡ firstFitting (motionRows (motionOf (fields .entry) grid) rows)) ⌝ }
+{
+    let lengths = motion_limits::motion_lengths(fields, grid);
+    let limits = motion_limits::motion_numbers(grid);
+    plane::unless(4, lengths, plane::unless(5, limits, rest))
+}
+
+// The number of a refusal of a pair by its planes and its motion and by whether the sums are right, or else `rest`.
+pub fn pair_refusal(
+    sums: bool,
     first: [&[u8]; 3],
     second: [&[u8]; 3],
     fields: [&[u16]; 4],
     numbers: Numbers,
+    rest: u8,
 ) -> u8
-    ensures { λ r. ⌜ r ≡ statsRefusal (statsBy (now (luma .entry)) (now (chroma1 .entry)) (now (chroma2 .entry)) (first .entry) (second .entry) (fields .entry) numbers) ⌝ }
+    ensures { λ r. ⌜ ((rows : Table) → rest ≡ firstFitting rows → r ≡ firstFitting (pairRows (callBy absent (first .entry) (second .entry) (fields .entry) numbers) sums rows)) ⌝ }
 {
     let width = numbers.width;
     let height = numbers.height;
-    let ratio = numbers.ratio;
     let first_pitches = numbers.first;
     let second_pitches = numbers.second;
-    let across = plane::divided(width, ratio);
-    let down = plane::divided(height, ratio);
+    let across = plane::divided(width, numbers.ratio);
+    let down = plane::divided(height, numbers.ratio);
     let sizes = plane::sizes(width, height);
-    let divided = plane::ratioed(ratio, width, height);
+    let divided = plane::ratioed(numbers.ratio, width, height);
     let luma_pitches = two_pitched(first_pitches[0], second_pitches[0], width);
     let chroma_pitches = four_pitched(
         first_pitches[1],
@@ -121,21 +130,33 @@ pub fn stats_refusal(
         height,
     );
     let chroma_planes = four_planed(first, second, numbers, across, down);
+    let lent = plane::unless(4, sums, motion_refusal(fields, numbers.grid, rest));
+    let planes = plane::unless(4, luma_planes, plane::unless(4, chroma_planes, lent));
+    let pitches = plane::unless(3, luma_pitches, plane::unless(3, chroma_pitches, planes));
+    plane::unless(1, sizes, plane::unless(2, divided, pitches))
+}
+
+// The number of a call's refusal, or 0.
+pub fn stats_refusal(
+    luma: &[f32],
+    chroma1: &[f32],
+    chroma2: &[f32],
+    first: [&[u8]; 3],
+    second: [&[u8]; 3],
+    fields: [&[u16]; 4],
+    numbers: Numbers,
+) -> u8
+    ensures { λ r. ⌜ r ≡ statsRefusal (statsBy (now (luma .entry)) (now (chroma1 .entry)) (now (chroma2 .entry)) (first .entry) (second .entry) (fields .entry) numbers) ⌝ }
+{
     let sums = plane::exact_planes(
         luma.len(),
         chroma1.len(),
         chroma2.len(),
         6,
-        width,
-        height,
-        ratio,
+        numbers.width,
+        numbers.height,
+        numbers.ratio,
     );
-    let grid = numbers.grid;
-    let lengths = motion_limits::motion_lengths(fields, grid);
-    let limits = motion_limits::motion_numbers(grid);
-    let after_lengths = plane::unless(5, limits, plane::unless(7, numbers.pairs <= 11, 0));
-    let lent = plane::unless(4, sums, plane::unless(4, lengths, after_lengths));
-    let planes = plane::unless(4, luma_planes, plane::unless(4, chroma_planes, lent));
-    let pitches = plane::unless(3, luma_pitches, plane::unless(3, chroma_pitches, planes));
-    plane::unless(1, sizes, plane::unless(2, divided, pitches))
+    let rest = plane::unless(7, numbers.pairs <= 11, 0);
+    pair_refusal(sums, first, second, fields, numbers, rest)
 }

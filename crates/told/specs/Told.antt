@@ -5,10 +5,13 @@ use mathlib.Core.List.{List}
 use Prim.Native.Nat.{ℕ}
 use lib.Ieee.{Float}
 use Rattle.rules.specs.declared.Answer.{Answer}
-use Rattle.rules.specs.Calls.{FitCall}
+use Rattle.rules.specs.declared.Walked.{Walked}
+use Rattle.rules.specs.Forms.{Slot, Fit}
+use Rattle.rules.specs.Calls.{FitCall, WalkPairCall, WalkLayerCall}
 use Rattle.rules.specs.Refusals.{fitRefusal}
 use Rattle.rules.specs.Fit.{freesWork}
 use Rattle.rules.specs.Host.{word}
+use Rattle.rules.specs.Walk.{walkPairAnswer, walkPairLeaves, walkLayerRefusal, walkLayerAnswer, walkLayerLeaves}
 
 -- one slice
 pub record Told {A : Type 0} (answer : Answer) (leaves left : List A) (r : ℕ) : Type 0 where
@@ -27,3 +30,16 @@ pub record WorkStays (c : FitCall) (models′ : List Float) (kept′ cover′ : 
   pub models-stay : freesWork (fitRefusal c) ≡ false → models′ ≡ c .models
   pub kept-stays : freesWork (fitRefusal c) ≡ false → kept′ ≡ c .kept
   pub cover-stays : freesWork (fitRefusal c) ≡ false → cover′ ≡ c .cover
+
+-- a pair that a walk is handed: the walk, and every slice of its sums
+pub record PairTold (c : WalkPairCall) (slots′ : List Slot) (r : Walked) : Type 0 where
+  pub told : r ≡ walkPairAnswer c
+  pub slots-left : slots′ ≡ walkPairLeaves c
+
+-- a layer that is taken from it: the walk, what is stored, and the work slices, which a refusal leaves as they were
+pub record LayerTold (c : WalkLayerCall) (models′ : List Float) (kept′ cover′ : List ℕ) (output′ : Fit) (r : Walked) : Type 0 where
+  pub told : r ≡ walkLayerAnswer c
+  pub output-left : output′ ≡ walkLayerLeaves c
+  pub models-stay : freesWork (walkLayerRefusal c) ≡ false → models′ ≡ c .models
+  pub kept-stays : freesWork (walkLayerRefusal c) ≡ false → kept′ ≡ c .kept
+  pub cover-stays : freesWork (walkLayerRefusal c) ≡ false → cover′ ≡ c .cover

@@ -3,7 +3,7 @@ use rules::Answer;
 use rules::Reply;
 ghost use mathlib.Core.Path.{_≡_};
 ghost use Prim.Native.Nat.{_≤_};
-ghost use Rattle.rules.specs.Host.{word as wordOf, replyWord};
+ghost use Rattle.rules.specs.Host.{word as wordOf, yesWord, replyWord};
 
 // An answer without a count.
 pub fn number(a: Answer) -> u64
@@ -21,6 +21,13 @@ pub fn word(a: Answer) -> u64
 }
 
 // A yes or no as one number: the yes stands in the count's place.
+pub fn yes(answer: bool) -> u64
+    ensures { λ r. ⌜ r ≡ yesWord answer ⌝ }
+{
+    if answer { 256 } else { 0 }
+}
+
+// The same beside a number.
 pub fn reply(a: Reply) -> u64
     ensures { λ r. ⌜ r ≡ replyWord a ⌝ }
 {

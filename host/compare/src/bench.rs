@@ -1,10 +1,11 @@
 //! Each call beside the Rust on one thread: the same inputs, in one run, by turns. A call that the Rust does not have
-//! stands beside a plain copy.
+//! stands beside a plain copy, or beside our own calls that do the same by hand.
 
 #[cfg(before)]
 pub mod before;
 pub mod copied;
 pub mod scene;
+pub mod slices;
 
 /// A call's workloads at mask steps of a pixel: for each, a mask with nothing, half or everything marked.
 macro_rules! at_steps {
@@ -87,9 +88,15 @@ pub mod peel;
 pub mod render;
 pub mod stats;
 pub mod unpeel;
+pub mod walk_due;
+pub mod walk_layer;
+pub mod walk_pair;
+pub mod walk_start;
+pub mod walks;
 
 use std::time::{Duration, Instant};
 
+use crate::names::WALKS;
 use crate::report::rows::{Beside, Growth, Row};
 use crate::report::spread;
 
@@ -113,6 +120,11 @@ pub const CALLS: &[&[Workload]] = &[
     parcel_write::WORKLOADS,
     parcel_read::WORKLOADS,
     parcel_sizes::WORKLOADS,
+    walk_start::WORKLOADS,
+    walk_pair::WORKLOADS,
+    walk_layer::WORKLOADS,
+    walk_due::WORKLOADS,
+    walks::WORKLOADS,
 ];
 
 /// The sizes of luma, and how many rounds each gets at most.
@@ -143,6 +155,8 @@ pub struct Workload {
     pub beside: Beside,
     /// Makes the inputs for a size of luma.
     pub make: Make,
+    /// It is measured at so many of the sizes, from the smallest on.
+    sizes: usize,
 }
 
 type Make = fn(usize, usize) -> Box<dyn Sides>;
@@ -154,6 +168,7 @@ impl Workload {
             name,
             beside: Beside::Rust,
             make,
+            sizes: SIZES.len(),
         }
     }
 
@@ -165,12 +180,47 @@ impl Workload {
         }
     }
 
+    /// Of a call that does what other calls do by hand.
+    const fn by_hand(call: &'static str, name: &'static str, make: Make) -> Self {
+        Self {
+            beside: Beside::Hand,
+            ..Self::new(call, name, make)
+        }
+    }
+
+    /// The same, but not at the largest size.
+    const fn but_the_largest(self) -> Self {
+        Self {
+            sizes: SIZES.len() - 1,
+            ..self
+        }
+    }
+
+    /// The sizes that it is measured at, and how many rounds each gets at most.
+    pub fn sizes(&self) -> &'static [(usize, usize, usize)] {
+        &SIZES[..self.sizes]
+    }
+
+    /// How many of so many rounds it gets: one in ten, where it is a whole walk, which is some forty calls.
+    pub fn rounds(&self, of: usize) -> usize {
+        match self.call {
+            WALKS => of.div_ceil(10),
+            _ => of,
+        }
+    }
+
+    /// Whether its growth is measured, which is up to the largest size.
+    pub fn grows(&self) -> bool {
+        self.sizes == SIZES.len()
+    }
+
     /// Our side has left what is right, where each side has had a turn.
     fn assert_right(&self, sides: &mut dyn Sides) {
         let (call, name) = (self.call, self.name);
         let right = match self.beside {
             Beside::Rust => "the Rust",
             Beside::Copy => "the second implementation",
+            Beside::Hand => "our other calls",
         };
         assert!(sides.same(), "{call}, {name}: not what {right} leaves");
     }
@@ -178,13 +228,28 @@ impl Workload {
 
 /// One input, and both sides on it. Outputs are not cleared between rounds.
 pub trait Sides {
-    /// What the time is divided by: the pixels of the plane, the cells or the records.
+    /// What the time is divided by: the pixels of the plane, the cells or the records; 1 where a call is the measure.
     fn pixels(&self) -> usize;
     fn ours(&mut self);
-    /// The Rust's turn, or that of the copy.
+    /// The Rust's turn, or that of the copy, or of the calls by hand.
     fn theirs(&mut self);
-    /// Whether our side has left what the Rust has left; beside a copy, what the second implementation leaves.
+    /// Whether our side has left what the Rust or the calls by hand have left; beside a copy, what the second
+    /// implementation leaves.
     fn same(&mut self) -> bool;
+}
+
+/// Whether both sides leave the same in slices that they share, each in a turn that finds them spoilt.
+fn leave_alike<S: Sides, T: PartialEq>(
+    sides: &mut S,
+    spoil: impl Fn(&mut S),
+    left: impl Fn(&S) -> T,
+) -> bool {
+    spoil(sides);
+    sides.ours();
+    let ours = left(sides);
+    spoil(sides);
+    sides.theirs();
+    ours == left(sides)
 }
 
 /// Measures a workload at a size, in at most so many rounds, and no longer than `enough` if that will do.
@@ -197,7 +262,11 @@ pub fn measured(workload: &Workload, size: (usize, usize), most: usize, enough: 
         .map(|(ours, other)| ours.as_secs_f64() / other.as_secs_f64())
         .collect();
     let (rounds, pixels) = (ours.len(), sides.pixels());
-    let [ours, other] = [ours, other].map(|times| per_pixel(times, pixels * calls));
+    let of_turns = match workload.beside {
+        Beside::Hand => shortest,
+        Beside::Rust | Beside::Copy => median,
+    };
+    let [ours, other] = [ours, other].map(|times| per_pixel(of_turns(times), pixels * calls));
     Row {
         call: workload.call.to_owned(),
         workload: workload.name.to_owned(),
@@ -254,7 +323,8 @@ fn in_turn(inputs: &mut [Box<dyn Sides>]) -> f64 {
     let mut round = || timed(|| inputs.iter_mut().for_each(|sides| sides.ours()));
     round();
     let times = (0..GROWTH_ROUNDS).map(|_| round()).collect();
-    per_pixel(times, inputs.iter().map(|sides| sides.pixels()).sum())
+    let pixels = inputs.iter().map(|sides| sides.pixels()).sum();
+    per_pixel(median(times), pixels)
 }
 
 fn timed(work: impl FnOnce()) -> Duration {
@@ -268,8 +338,17 @@ fn calls_in_a_round(once: Duration) -> usize {
     calls.clamp(1, 1000) as usize
 }
 
-/// The median, in nanoseconds per pixel.
-fn per_pixel(mut times: Vec<Duration>, pixels: usize) -> f64 {
+fn median(mut times: Vec<Duration>) -> Duration {
     times.sort_unstable();
-    times[times.len() / 2].as_nanos() as f64 / pixels as f64
+    times[times.len() / 2]
+}
+
+/// Where both sides do the same work, this is what can be compared: what they differ by is less than rounds do.
+fn shortest(times: Vec<Duration>) -> Duration {
+    times.into_iter().min().unwrap_or_default()
+}
+
+/// In nanoseconds per pixel.
+fn per_pixel(time: Duration, pixels: usize) -> f64 {
+    time.as_nanos() as f64 / pixels as f64
 }

@@ -19,6 +19,7 @@ pub mod inputs;
 pub mod layer;
 pub mod motion;
 pub mod parcels;
+pub mod planes;
 pub mod rng;
 pub mod run;
 pub mod show;
@@ -26,6 +27,8 @@ pub mod shrink;
 pub mod stored;
 pub mod table;
 pub mod totals;
+pub mod walk;
+pub mod walks;
 
 pub mod apply;
 pub mod assemble;
@@ -41,13 +44,17 @@ pub mod peel;
 pub mod render;
 pub mod stats;
 pub mod unpeel;
+pub mod walk_due;
+pub mod walk_layer;
+pub mod walk_pair;
+pub mod walk_start;
 
 pub use case::Case;
 pub use run::Call;
 pub use stored::Stored;
 
-/// Every call that is compared. The stored list, which holds the Rust's answers, names a call by its number here, which
-/// therefore never changes.
+/// Every call that is compared, and whole walks. The stored list, which holds the Rust's answers, names a call by its
+/// number here, which therefore never changes.
 pub const CALLS: &[Call] = &[
     Call::stored::<distances::Distances>(0),
     Call::stored::<mask::Mask>(1),
@@ -65,6 +72,11 @@ pub const CALLS: &[Call] = &[
     Call::of::<parcel_write::ParcelWrite>(),
     Call::of::<parcel_read::ParcelRead>(),
     Call::of::<parcel_sizes::ParcelSizes>(),
+    Call::of::<walk_start::WalkStart>(),
+    Call::of::<walk_pair::WalkPair>(),
+    Call::of::<walk_layer::WalkLayer>(),
+    Call::of::<walk_due::WalkDue>(),
+    Call::walks(),
 ];
 
 /// The stored list, call by call: some cases of every refusal and of every way of a chroma total out of the range, then

@@ -3,3 +3,4 @@
 
 pub mod parcel;
 pub mod total;
+pub mod walk;

@@ -3,9 +3,9 @@
 
 use std::collections::BTreeSet;
 
-/// The differential run compares, and the benchmark measures, each function that is declared, under its name; but for
-/// the two of single floats, which are run on all floats. That what is declared is what is proved, the library's own
-/// test `interface` checks.
+/// The differential run compares, and the benchmark measures, each function that is declared, under its name, and whole
+/// walks; but not the two of single floats, which are run on all floats. That what is declared is what is proved, the
+/// library's own test `interface` checks.
 #[test]
 fn each_function_is_compared_and_measured() {
     let names = safeteal::ffi::DECLARED.iter().map(|(name, _)| *name);
@@ -14,9 +14,13 @@ fn each_function_is_compared_and_measured() {
         assert!(declared.remove(single), "{single}");
     }
     let named = |name: &str| format!("safeteal_{name}");
+    declared.insert(named("walks"));
     let compared = compare::check::CALLS.iter().map(|call| named(call.name));
     assert_eq!(compared.collect::<BTreeSet<_>>(), declared);
     let workloads = compare::bench::CALLS.iter().copied().flatten();
     let measured = workloads.map(|workload| named(workload.call));
     assert_eq!(measured.collect::<BTreeSet<_>>(), declared);
+    let taken = compare::names::calls().into_iter();
+    let taken: BTreeSet<_> = taken.map(|call| named(&call)).collect();
+    assert_eq!(taken, declared);
 }

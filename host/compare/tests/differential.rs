@@ -1,9 +1,10 @@
 //! The differential run: every call against the Rust, or against the second implementation of a call that the Rust does
-//! not have, at least 100,000 cases each. Chroma entries with a partial total outside the range are left out of the
-//! comparison with the Rust and held against plain arithmetic; the run says how many.
+//! not have, at least 100,000 cases each; and whole walks, of as many calls together. Chroma entries with a partial
+//! total outside the range are left out of the comparison with the Rust and held against plain arithmetic; the run says
+//! how many.
 //!
 //! `SAFETEAL_CASES` sets the number, `SAFETEAL_SEED` the one seed, `SAFETEAL_CALLS` the calls (names with commas),
-//! `SAFETEAL_TRACE` names each case before it runs.
+//! `SAFETEAL_TRACE` names each input before it runs.
 
 #[cfg(oracle_absent)]
 #[test]

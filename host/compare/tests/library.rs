@@ -10,13 +10,15 @@ use compare::check::damage::input;
 use compare::check::layer::Number;
 use compare::check::rng::Rng;
 use compare::check::run::seed;
+use compare::check::walk::Walk;
 use compare::check::{
     apply, assemble, distances, empty, fit, hold, mask, parcel_read, parcel_sizes, parcel_write,
-    peel, render, stats, unpeel,
+    peel, render, stats, unpeel, walk_due, walk_layer, walk_pair, walk_start,
 };
-use safeteal::ffi::Sizes;
+use safeteal::ffi::{self, Sizes, Walked};
 use safeteal::{
-    Channel, Error, LayerMut, Limits, Mask, Motion, Parts, Plane, PlaneMut, Ratio, Refusal, Size,
+    Channel, Error, LayerMut, Limits, Mask, Motion, Parts, Plane, PlaneMut, Progress, Ratio,
+    Refusal, Size,
 };
 
 const CASES: u64 = 4000;
@@ -52,8 +54,9 @@ fn same<C: Through>() {
         }
         assert_eq!(difference(&mut direct, &mut through, word), None, "{place}");
     }
+    let refuses = C::NUMBERS != [0];
     assert!(
-        accepted > 100 && refused > 0,
+        accepted > 100 && (refused > 0) == refuses,
         "{}, seed {seed}: {accepted} accepted, {refused} refused",
         C::NAME
     );
@@ -85,6 +88,10 @@ tests! {
     parcel_write_through_the_library: parcel_write::ParcelWrite,
     parcel_read_through_the_library: parcel_read::ParcelRead,
     parcel_sizes_through_the_library: parcel_sizes::ParcelSizes,
+    walk_start_through_the_library: walk_start::WalkStart,
+    walk_pair_through_the_library: walk_pair::WalkPair,
+    walk_layer_through_the_library: walk_layer::WalkLayer,
+    walk_due_through_the_library: walk_due::WalkDue,
 }
 
 fn done(answer: Result<(), Error>) -> Option<Result<u64, Error>> {
@@ -169,19 +176,19 @@ impl Through for render::Render {
         let answer = lent
             .layer()?
             .render(channel, output, frames, &motion, self.algo);
-        judged(answer, &motion)
+        judged(counted(answer)?, &motion)
     }
 }
 
 /// An answer on a motion, where its blocks cover the frames. Where they do not, the library refuses what C takes.
-fn judged(answer: Result<u64, Error>, motion: &Motion<'_>) -> Option<Result<u64, Error>> {
+fn judged<A>(answer: Result<A, Error>, motion: &Motion<'_>) -> Option<Result<A, Error>> {
     match &answer {
         Err(error) if error.to_string().contains("does not cover luma") => {
             assert_eq!(error.refusal(), Refusal::Size);
             assert!(!motion.covers(), "{error}");
             None
         }
-        _ => counted(answer),
+        _ => Some(answer),
     }
 }
 
@@ -253,5 +260,71 @@ impl Through for parcel_read::ParcelRead {
 impl Through for parcel_sizes::ParcelSizes {
     fn library(&mut self) -> Option<Result<Sizes, Error>> {
         sized(safeteal::parcel_sizes(&self.parcel))
+    }
+}
+
+/// How far a walk has come; none for a ratio that the library cannot hold.
+fn progress(walk: &Walk) -> Option<Progress> {
+    let (width, height, ratio) = walk.sizes();
+    Some(Progress {
+        size: Size::new(width, height),
+        ratio: Ratio::of_number(ratio)?,
+        pairs: walk.pairs,
+        added: walk.added,
+        taken: walk.taken,
+    })
+}
+
+/// The answer of an accepted call that has come so far.
+fn walked(progress: Progress) -> Walked {
+    let Progress {
+        size: Size { width, height },
+        ratio,
+        pairs,
+        added,
+        taken,
+    } = progress;
+    Walked {
+        word: 0,
+        walk: ffi::Walk {
+            width,
+            height,
+            ratio: ratio.number(),
+            pairs,
+            added,
+            taken,
+        },
+    }
+}
+
+impl Through for walk_start::WalkStart {
+    fn library(&mut self) -> Option<Result<Walked, Error>> {
+        let (size, ratio) = (Size::new(self.width, self.height), self.ratio);
+        let started = Progress::start(size, Ratio::of_number(ratio)?, self.pairs);
+        Some(started.map(walked))
+    }
+}
+
+impl Through for walk_pair::WalkPair {
+    fn library(&mut self) -> Option<Result<Walked, Error>> {
+        let mut progress = progress(&self.walk)?;
+        let pair = self.planes.pair(&self.motion, self.walk.sizes());
+        let answer = progress.push(&mut self.slots.lent(), self.number, &pair);
+        judged(answer.map(|()| walked(progress)), &pair.motion)
+    }
+}
+
+impl Through for walk_layer::WalkLayer {
+    fn library(&mut self) -> Option<Result<Walked, Error>> {
+        let mut progress = progress(&self.walk)?;
+        let (slots, settings, work, layer) = self.lent();
+        let answer = progress.layer(&slots, settings, work, layer);
+        Some(answer.map(|()| walked(progress)))
+    }
+}
+
+impl Through for walk_due::WalkDue {
+    fn library(&mut self) -> Option<Result<u64, Error>> {
+        counted(Ok(progress(&self.walk)?.is_due().into()))
     }
 }

@@ -5,7 +5,7 @@ use std::fs;
 use std::path::Path;
 use std::process::Command;
 
-use compare::names::calls;
+use compare::names::{calls, WALKS};
 use compare::report::csv::read;
 use compare::report::files::{docs, page, Reported, CHART, GROWTH, PAGE, ROWS};
 use compare::report::rows::{Growth, Row};
@@ -36,24 +36,26 @@ fn the_table_and_the_chart_are_those_of_the_rows() {
     assert_eq!(named, calls().into_iter().collect());
 }
 
+/// All but whole walks grow up to the largest size.
 #[test]
 fn the_table_of_growth_is_that_of_its_rows() {
     let rows: Vec<Growth> = told(GROWTH);
     let named: BTreeSet<String> = rows.iter().map(|row| row.call.clone()).collect();
-    assert_eq!(named, calls().into_iter().collect());
+    let grown = calls().into_iter().filter(|call| call != WALKS);
+    assert_eq!(named, grown.collect());
 }
 
-/// Each workload has its rows, at each size, and none has others.
+/// Each workload has its rows, at each of its sizes, and none has others.
 #[cfg(not(oracle_absent))]
 #[test]
 fn the_rows_are_those_of_the_workloads() {
-    use compare::bench::{CALLS, SIZES};
+    use compare::bench::CALLS;
 
     let workloads = CALLS.iter().copied().flatten();
     let name = |call: &str, workload: &str| format!("{call}, {workload}");
     let mut sized = BTreeSet::new();
     for workload in workloads.clone() {
-        for (width, height, _) in SIZES {
+        for &(width, height, _) in workload.sizes() {
             sized.insert((name(workload.call, workload.name), (width, height)));
         }
     }
@@ -63,7 +65,8 @@ fn the_rows_are_those_of_the_workloads() {
     assert_eq!(rows.len(), sized.len());
     let grown: Vec<Growth> = told(GROWTH);
     let grown = grown.iter().map(|row| name(&row.call, &row.workload));
-    let names = workloads.map(|workload| name(workload.call, workload.name));
+    let names = workloads.filter(|workload| workload.grows());
+    let names = names.map(|workload| name(workload.call, workload.name));
     assert_eq!(grown.collect::<BTreeSet<_>>(), names.collect());
 }
 

@@ -1,102 +1,128 @@
-//! The lettering is found: sums over the pairs of the clip, then a fit at each of the two evidence figures.
+//! The lettering is found: a walk over the clip, with a layer for each chunk at each of the two evidence figures.
 
 use std::ops::Range;
 
 use crate::clip::{Clip, RATIO};
-use crate::report::Progress;
-use safeteal::{Error, LayerBuf, Pair, Settings, Sums};
+use crate::report::{grouped, many, paragraph, Progress};
+use safeteal::{Channel, Error, LayerBuf, Pair, Settings, Sums, Walk};
 
-/// The pairs that one part of sums can hold.
-pub const PART: usize = Sums::MOST;
-
-/// The pairs of a clip's middle part, with those of its neighbours: at most three times twelve.
-struct Ranges {
-    previous: Range<usize>,
-    own: Range<usize>,
-    next: Range<usize>,
+/// The chunks of a clip of that many pairs: twelve to a chunk, and the last one has what is left.
+#[derive(Clone, Copy)]
+pub struct Chunks {
+    pub pairs: usize,
 }
 
-impl Ranges {
-    /// Of two parts in the middle the first is taken, which is full.
-    fn of(frames: usize) -> Self {
+impl Chunks {
+    /// The pairs of a chunk.
+    pub const MOST: usize = Sums::MOST;
+
+    pub fn of(frames: usize) -> Self {
         let pairs = frames - 1;
-        let own = (pairs.div_ceil(PART) - 1) / 2;
-        let part = |number: usize| (number * PART).min(pairs)..pairs.min((number + 1) * PART);
-        Self {
-            previous: if own > 0 { part(own - 1) } else { 0..0 },
-            own: part(own),
-            next: part(own + 1),
+        Self { pairs }
+    }
+
+    pub fn count(self) -> usize {
+        self.pairs.div_ceil(Self::MOST)
+    }
+
+    /// The chunk in the middle, whose layer is shown. Of two it is the first, which is full.
+    pub fn middle(self) -> usize {
+        (self.count() - 1) / 2
+    }
+
+    /// The pairs that a chunk's layer is fitted to: its own, and those of the chunks before and after it.
+    fn around(self, chunk: usize) -> Range<usize> {
+        let begins = chunk.saturating_sub(1) * Self::MOST;
+        begins..self.pairs.min((chunk + 2) * Self::MOST)
+    }
+
+    /// How often a dot can stand apart in a chunk's layer: each pair compares both ways.
+    pub fn evidence(self, chunk: usize) -> usize {
+        2 * self.around(chunk).len()
+    }
+
+    /// What a figure for the middle chunk is for another: as large a part of the comparisons that there are.
+    fn figure(self, figure: f32, chunk: usize) -> f32 {
+        let [all, own] = [self.middle(), chunk].map(|chunk| self.evidence(chunk));
+        match own == all {
+            true => figure,
+            // Evidence is counted in whole comparisons.
+            false => (figure * own as f32 / all as f32).ceil(),
         }
     }
-
-    fn all(&self) -> Range<usize> {
-        self.own.start - self.previous.len()..self.own.end + self.next.len()
-    }
 }
 
-/// The pairs that are added up, of a clip of so many frames.
-pub fn summed(frames: usize) -> Range<usize> {
-    Ranges::of(frames).all()
-}
-
-/// How often a dot can stand apart in a clip of so many frames: each pair compares both ways.
-pub fn most_evidence(frames: usize) -> usize {
-    2 * summed(frames).len()
-}
-
-/// The sums of the clip's middle part and of its neighbours.
-pub struct Parts {
-    previous: Option<Sums>,
-    own: Sums,
-    next: Option<Sums>,
-    /// The frame in the middle of the own part.
+/// What the walk gives.
+pub struct Found {
+    /// The layers of the middle chunk at the first and at the second figure.
+    pub layers: [LayerBuf; 2],
+    /// The frame in the middle of that chunk.
     pub frame: usize,
+    /// Whether the second layer of every chunk has all that passed in the first, unchanged.
+    pub kept: bool,
 }
 
-impl Parts {
-    /// Adds up the pairs.
-    pub fn of(clip: &Clip) -> Result<Self, Error> {
-        let ranges = Ranges::of(clip.frames());
-        let begins = ranges.all().start;
-        let mut progress = Progress::of("pairs", ranges.all().len());
-        let Ranges {
-            previous,
-            own,
-            next,
-        } = ranges;
-        let mut sums = |pairs: Range<usize>| -> Result<Sums, Error> {
-            let mut sums = Sums::new(clip.size, RATIO)?;
-            let mut first = clip.frame(pairs.start)?;
-            for pair in pairs {
-                let second = clip.frame(pair + 1)?;
-                sums.add(&Pair::of(&first, &second, &clip.motion(pair)?)?)?;
-                first = second;
-                progress.done(pair + 1 - begins);
+/// Walks over the clip; says of each layer what was found as soon as it is due.
+pub fn walk(clip: &Clip, evidence: [f32; 2]) -> Result<Found, Error> {
+    let chunks = Chunks::of(clip.frames());
+    let mut walk = Walk::new(clip.size, RATIO, chunks.pairs)?;
+    let mut progress = Progress::of("pairs", chunks.pairs);
+    let (mut middle, mut kept, mut first) = (None, true, clip.frame(0)?);
+    for number in 0..chunks.pairs {
+        let second = clip.frame(number + 1)?;
+        walk.push(&Pair::of(&first, &second, &clip.motion(number)?)?)?;
+        first = second;
+        progress.done(number + 1);
+        while walk.is_due() {
+            let chunk = walk.taken();
+            let figures = evidence.map(|figure| chunks.figure(figure, chunk));
+            let layers = layers(&mut walk, figures)?;
+            kept &= told(&walk, &layers, figures)?;
+            if chunk == chunks.middle() {
+                middle = Some(layers);
             }
-            Ok(sums)
-        };
-        let previous = Some(previous).filter(|pairs| !pairs.is_empty());
-        let next = Some(next).filter(|pairs| !pairs.is_empty());
-        Ok(Self {
-            previous: previous.map(&mut sums).transpose()?,
-            frame: (own.start + own.end) / 2,
-            own: sums(own)?,
-            next: next.map(sums).transpose()?,
-        })
+        }
     }
+    let pairs = walk.chunk(chunks.middle());
+    Ok(Found {
+        layers: middle.expect("a clip of a pair or more has a chunk in its middle"),
+        frame: (pairs.start + pairs.end) / 2,
+        kept,
+    })
+}
 
-    /// The layer that is found where a dot has to stand apart at least `evidence` times.
-    pub fn fit(&self, evidence: f32) -> Result<LayerBuf, Error> {
-        let settings = Settings {
-            evidence,
-            ..Settings::default()
-        };
-        LayerBuf::fit(
-            self.previous.as_ref(),
-            &self.own,
-            self.next.as_ref(),
-            settings,
-        )
+/// The layer that is due, at the first figure to try and at the second to take.
+fn layers(walk: &mut Walk, figures: [f32; 2]) -> Result<[LayerBuf; 2], Error> {
+    let [high, low] = figures.map(|evidence| Settings {
+        evidence,
+        ..Settings::default()
+    });
+    Ok([walk.preview(high)?, walk.layer(low)?])
+}
+
+/// Says what was found in the chunk whose layer was taken last; gives whether the second layer has all of the first.
+fn told(
+    walk: &Walk,
+    [first, second]: &[LayerBuf; 2],
+    [high, low]: [f32; 2],
+) -> Result<bool, Error> {
+    let difference = first.compare(second)?;
+    let luma = difference.counts(Channel::Luma);
+    let both = luma.stayed + luma.changed;
+    let (passed, found) = (many(both + luma.lost), grouped(both + luma.new));
+    let (number, count) = (walk.taken(), walk.chunks());
+    let pairs = numbered(walk.chunk(number - 1));
+    paragraph(&format!(
+        "Layer {number} of {count}, for {pairs}: {passed} at figure {high}, {found} at {low}."
+    ));
+    Ok(difference.keeps_all())
+}
+
+/// The pairs of a chunk in words, counted from 1.
+fn numbered(pairs: Range<usize>) -> String {
+    match pairs.len() {
+        1 => format!("pair {}", pairs.end),
+        _ => format!("pairs {} to {}", pairs.start + 1, pairs.end),
     }
 }
 
@@ -105,20 +131,50 @@ mod tests {
     use super::*;
 
     #[test]
-    fn the_middle_part_and_its_neighbours() {
-        let parts = |frames| {
-            let ranges = Ranges::of(frames);
-            (ranges.previous, ranges.own, ranges.next)
+    fn the_middle_chunk_and_what_is_around_it() {
+        let middle = |frames| {
+            let chunks = Chunks::of(frames);
+            let own = chunks.middle();
+            (chunks.count(), own, chunks.around(own))
         };
-        assert_eq!(parts(2), (0..0, 0..1, 1..1));
-        assert_eq!(parts(13), (0..0, 0..12, 12..12));
-        assert_eq!(parts(14), (0..0, 0..12, 12..13));
-        assert_eq!(parts(25), (0..0, 0..12, 12..24));
-        assert_eq!(parts(37), (0..12, 12..24, 24..36));
-        assert_eq!(parts(38), (0..12, 12..24, 24..36));
-        assert_eq!(parts(41), (0..12, 12..24, 24..36));
-        assert_eq!(parts(240), (96..108, 108..120, 120..132));
-        assert_eq!((summed(9), summed(240)), (0..8, 96..132));
-        assert_eq!((most_evidence(9), most_evidence(37)), (16, 72));
+        assert_eq!(middle(2), (1, 0, 0..1));
+        assert_eq!(middle(13), (1, 0, 0..12));
+        assert_eq!(middle(14), (2, 0, 0..13));
+        assert_eq!(middle(25), (2, 0, 0..24));
+        assert_eq!(middle(26), (3, 1, 0..25));
+        assert_eq!(middle(37), (3, 1, 0..36));
+        assert_eq!(middle(38), (4, 1, 0..36));
+        assert_eq!(middle(240), (20, 9, 96..132));
+        let most = |frames| Chunks::of(frames).evidence(Chunks::of(frames).middle());
+        assert_eq!([9, 25, 37, 240].map(most), [16, 48, 72, 72]);
+    }
+
+    #[test]
+    fn pairs_in_words() {
+        assert_eq!(numbered(0..12), "pairs 1 to 12");
+        assert_eq!(numbered(24..25), "pair 25");
+    }
+
+    /// At the ends of a clip fewer pairs are around a chunk, and the figures are as much lower.
+    #[test]
+    fn figures_go_with_the_pairs_around_a_chunk() {
+        let figures = |frames, figure| {
+            let chunks = Chunks::of(frames);
+            let figures = (0..chunks.count()).map(|chunk| chunks.figure(figure, chunk));
+            figures.collect::<Vec<_>>()
+        };
+        assert_eq!(figures(37, 72.0), [48.0, 72.0, 48.0]);
+        assert_eq!(figures(37, 40.0), [27.0, 40.0, 27.0]);
+        assert_eq!(figures(37, 0.5), [1.0, 0.5, 1.0]);
+        assert_eq!(figures(31, 60.0), [48.0, 60.0, 36.0]);
+        assert_eq!(figures(25, 48.0), [48.0, 48.0]);
+        assert_eq!(figures(9, 16.0), [16.0]);
+        for frames in 8..=240 {
+            let chunks = Chunks::of(frames);
+            let most = chunks.evidence(chunks.middle()) as f32;
+            for chunk in 0..chunks.count() {
+                assert_eq!(chunks.figure(most, chunk), chunks.evidence(chunk) as f32);
+            }
+        }
     }
 }

@@ -3,7 +3,7 @@
 use std::path::PathBuf;
 use std::str::FromStr;
 
-use crate::finding::{most_evidence, summed, PART};
+use crate::finding::Chunks;
 use safeteal::Size;
 
 /// The lines of `./demo --help`. The command prints the same file before anything is built.
@@ -21,27 +21,12 @@ pub struct Options {
 }
 
 impl Options {
-    /// What is allowed and cannot help: frames that are not looked at, and figures that no dot can reach.
-    pub fn notes(&self) -> Vec<String> {
-        let (pairs, summed) = (self.frames - 1, summed(self.frames));
+    /// What is allowed and cannot help: figures that no dot can reach.
+    pub fn note(&self) -> Option<String> {
         let most = most_evidence(self.frames);
-        let mut notes = Vec::new();
-        if summed.len() < pairs {
-            notes.push(format!(
-                "Of the {pairs} pairs of {} frames, {} are added up, numbers {} to {}: at most {PART} pairs make a \
-                 part, and a fit takes the part in the middle with its two neighbours. The rest, {} of the pairs, is \
-                 not looked at; a clip of {} frames has as many as a fit can use.",
-                self.frames,
-                summed.len(),
-                summed.start + 1,
-                summed.end,
-                pairs - summed.len(),
-                MOST_FRAMES
-            ));
-        }
         let [high, low] = self.evidence;
         let outside = match (high > most as f32, low > most as f32) {
-            (false, _) => return notes,
+            (false, _) => return None,
             (true, true) => format!(
                 "Evidence figures {high} and {low} are out of reach, and nothing will be found"
             ),
@@ -49,17 +34,19 @@ impl Options {
                 format!("Evidence figure {high} is out of reach, and nothing will pass at it")
             }
         };
-        notes.push(format!(
-            "{outside}: a pair gives two comparisons, so that in {} pairs a dot stands apart {most} times at most. \
-             Choose {most} or less.",
-            summed.len()
-        ));
-        notes
+        Some(format!(
+            "{outside}: a pair gives two comparisons, so that in the {} pairs of the middle chunk and its neighbours a \
+             dot stands apart {most} times at most. Choose {most} or less.",
+            most / 2
+        ))
     }
 }
 
-/// The frames of the longest clip of which every pair is added up: those of three parts, and one more.
-const MOST_FRAMES: usize = 3 * PART + 1;
+/// How often a dot can stand apart in the middle chunk of a clip of so many frames.
+fn most_evidence(frames: usize) -> usize {
+    let chunks = Chunks::of(frames);
+    chunks.evidence(chunks.middle())
+}
 
 /// What the words of the command line ask for.
 pub enum Asked {
@@ -168,41 +155,24 @@ mod tests {
         assert!(matches!(words("--help"), Ok(Asked::Help)));
     }
 
-    /// The notes of a right command line.
-    fn notes(text: &str) -> Vec<String> {
+    /// The note of a right command line, if there is one.
+    fn note(text: &str) -> Option<String> {
         let Ok(Asked::Run(options)) = words(text) else {
             panic!("a right command line");
         };
-        options.notes()
-    }
-
-    #[test]
-    fn frames_that_are_not_looked_at_are_said() {
-        assert_eq!(notes("--frames 37"), [""; 0]);
-        let [note] = &notes("--frames 38")[..] else {
-            panic!("one note");
-        };
-        assert!(
-            note.starts_with("Of the 37 pairs of 38 frames, 36 are added up, numbers 1 to 36: "),
-            "{note}"
-        );
-        assert!(
-            note.contains("The rest, 1 of the pairs, is not looked at; a clip of 37 frames"),
-            "{note}"
-        );
-        let note = notes("--frames 240").concat();
-        assert!(
-            note.starts_with(
-                "Of the 239 pairs of 240 frames, 36 are added up, numbers 97 to 132: "
-            ),
-            "{note}"
-        );
+        options.note()
     }
 
     #[test]
     fn figures_that_no_dot_can_reach_are_said() {
-        assert_eq!(notes("--evidence 72 --lower 72"), [""; 0]);
-        assert_eq!(notes("--frames 9 --evidence 16"), [""; 0]);
+        for text in [
+            "",
+            "--evidence 72 --lower 72",
+            "--frames 9 --evidence 16",
+            "--frames 240",
+        ] {
+            assert_eq!(note(text), None, "{text}");
+        }
         let said = [
             (
                 "--evidence 72.5",
@@ -210,23 +180,23 @@ mod tests {
             ),
             (
                 "--evidence 72.5",
-                "in 36 pairs a dot stands apart 72 times at most. Choose 72 or less.",
+                "in the 36 pairs of the middle chunk and its neighbours a dot stands apart 72 times at most. Choose 72 \
+                 or less.",
             ),
             (
                 "--frames 9 --evidence 17",
-                "in 8 pairs a dot stands apart 16 times at most.",
+                "in the 8 pairs of the middle chunk and its neighbours a dot stands apart 16 times at most.",
             ),
             (
                 "--evidence 200 --lower 73",
                 "Evidence figures 200 and 73 are out of reach, and nothing will be found: ",
             ),
-            ("--frames 240 --evidence 73", "in 36 pairs a dot"),
+            ("--frames 240 --evidence 73", "in the 36 pairs of"),
         ];
         for (text, part) in said {
-            let notes = notes(text).join(" ");
-            assert!(notes.contains(part), "{text}: {notes}");
+            let note = note(text).expect("a note");
+            assert!(note.contains(part), "{text}: {note}");
         }
-        assert_eq!(notes("--frames 240 --evidence 73").len(), 2);
     }
 
     #[test]

@@ -1,5 +1,5 @@
-//! The demo itself, step by step: find the lettering, send it to another desk, lift it, make the frame in between,
-//! bring the lettering back.
+//! The demo itself, step by step: walk over the clip and find the lettering, send it to another desk, lift it, make the
+//! frame in between, bring the lettering back.
 
 use std::error;
 use std::fs;
@@ -9,31 +9,31 @@ use std::path::Path;
 use crate::between::halfway;
 use crate::clip::Clip;
 use crate::dots::Dots;
-use crate::finding::{most_evidence, summed, Parts};
+use crate::finding::{self, Chunks, Found};
 use crate::gallery;
 use crate::options::Options;
 use crate::planes::{lay_back, lift, render, Written};
-use crate::report::{grouped, step};
+use crate::report::{grouped, paragraph, step};
 use crate::summary;
 use safeteal::{Channel, Error, Frame, LayerBuf, Size};
 
 pub fn run(options: &Options) -> Result<(), Box<dyn error::Error>> {
     writable(options)?;
-    for note in options.notes() {
+    if let Some(note) = options.note() {
         step("note", &note);
     }
     let clip = clip(options);
-    let parts = parts(&clip)?;
-    let [passed, layer] = fits(&parts, options)?;
-    let layer = sent(&layer)?;
-    let made = Made::new(&clip, parts.frame, [&passed, &layer])?;
+    let found = walk(&clip, options)?;
+    let [passed, layer] = &found.layers;
+    let layer = sent(layer, Chunks::of(options.frames))?;
+    let made = Made::new(&clip, found.frame, [passed, &layer])?;
     let folder = options.out.display();
     step(&format!("writing pictures to {folder}"), "");
     gallery::write(&made, options)?;
-    summary::print(&made, options.evidence);
+    summary::print(&made, options);
     let overview = options.out.join("overview.png");
     println!("\nLook at {} first.", overview.display());
-    if !made.dots.kept || made.kept.same < made.kept.changed {
+    if !found.kept || !made.dots.kept || made.kept.same < made.kept.changed {
         return Err("a passed dot was lost or changed, which the proof excludes".into());
     }
     Ok(())
@@ -51,36 +51,34 @@ fn clip(options: &Options) -> Clip {
     Clip::new(options.size, options.frames)
 }
 
-fn parts(clip: &Clip) -> Result<Parts, Error> {
-    let pairs = summed(clip.frames()).len();
+/// The walk over the clip, with a layer for each chunk at both figures.
+fn walk(clip: &Clip, options: &Options) -> Result<Found, Error> {
+    let (chunks, [high, low]) = (Chunks::of(options.frames), options.evidence);
+    let (pairs, count) = (chunks.pairs, chunks.count());
+    let most = chunks.evidence(chunks.middle());
+    let s = if count == 1 { "" } else { "s" };
+    let name = format!("walking over the clip: {pairs} pairs of frames, {count} chunk{s}");
     let about = "A pair is a frame and the next one, compared both ways: two comparisons. Lettering stands still while \
                  the scene moves on, so it stands apart from the scene. The sums keep, of each dot, how often and how \
-                 far.";
-    step(&format!("adding up {pairs} pairs of frames"), about);
-    Parts::of(clip)
+                 far. Twelve pairs are a chunk, and the walk keeps the sums of three chunks, however long the clip is.";
+    step(&name, about);
+    paragraph(&format!(
+        "Each chunk has a layer, which says of each dot what the lettering does to it: how much of the scene it lets \
+         through, and what it adds. It is fitted to the chunk and its neighbours as soon as they are complete. The \
+         evidence figure is how often a dot must have stood apart to be taken for lettering, in the middle chunk \
+         {most} times at most, twice for each pair. It is {high} first, then {low}, and in proportion where fewer \
+         pairs are around a chunk. Turned down it finds more, and nothing that was passed is lost."
+    ));
+    finding::walk(clip, options.evidence)
 }
 
-/// The layers at the first and at the second figure.
-fn fits(parts: &Parts, options: &Options) -> Result<[LayerBuf; 2], Error> {
-    let [high, low] = options.evidence;
-    let most = most_evidence(options.frames);
-    let name = format!("fitting at evidence figure {high}, then at {low}");
-    let about = format!(
-        "A fit makes a layer of the sums: it says of each dot what the lettering does to it, how much of the scene it \
-         lets through and what it adds. The evidence figure is how often a dot must have stood apart to be taken for \
-         lettering, here {most} times at most, twice for each pair. Turned down it finds more, and nothing that was \
-         passed is lost."
-    );
-    step(&name, &about);
-    Ok([parts.fit(high)?, parts.fit(low)?])
-}
-
-/// The layer as it is read at another desk, where the lettering is lifted.
-fn sent(layer: &LayerBuf) -> Result<LayerBuf, Error> {
+/// The layer of the middle chunk as it is read at another desk, where the lettering is lifted.
+fn sent(layer: &LayerBuf, chunks: Chunks) -> Result<LayerBuf, Error> {
     let parcel = layer.to_parcel();
-    let bytes = grouped(parcel.len());
-    let name = format!("sending the second layer to another desk: a parcel of {bytes} bytes");
-    let about = "From here on, the second layer is the one that is read there.";
+    let (bytes, number) = (grouped(parcel.len()), chunks.middle() + 1);
+    let name = format!("sending layer {number} to another desk: a parcel of {bytes} bytes");
+    let about = "It is that of the middle chunk at the second figure. From here on, the second layer is the one that \
+                 is read there, and the first one that of the same chunk at the first figure.";
     step(&name, about);
     LayerBuf::from_parcel(&parcel)
 }

@@ -1,13 +1,17 @@
 //! The demo's last words.
 
 use crate::dots::{Dots, Kind, Share};
+use crate::finding::Chunks;
+use crate::options::Options;
 use crate::report::{grouped, many, paragraph};
 use crate::story::Made;
 use safeteal::{Channel, Frame};
 
-pub fn print(made: &Made, evidence: [f32; 2]) {
+pub fn print(made: &Made, options: &Options) {
+    let (chunks, evidence) = (Chunks::of(options.frames), options.evidence);
+    let (chunk, count) = (chunks.middle() + 1, chunks.count());
     println!();
-    println!("What was found (the colours are those of 2-dots.png):");
+    println!("What was found in chunk {chunk} of {count} (the colours are those of 2-dots.png):");
     for words in found(&made.dots, evidence) {
         paragraph(&words);
     }

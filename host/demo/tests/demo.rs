@@ -113,6 +113,53 @@ fn leaves_seven_pictures_that_can_be_read() {
     }
 }
 
+/// Clips of one chunk, of two, of three and of more: a layer for each, in turn, and the pictures are of the middle one.
+#[test]
+fn each_chunk_has_its_layer() {
+    let folder = fresh("chunks");
+    let full = ["pairs 1 to 12", "pairs 13 to 24", "pairs 25 to 36"];
+    for (frames, middle, full, rest) in [
+        (8, 1, &full[..0], Some("pairs 1 to 7")),
+        (13, 1, &full[..1], None),
+        (14, 1, &full[..1], Some("pair 13")),
+        (25, 1, &full[..2], None),
+        (37, 2, &full[..], None),
+        (40, 2, &full[..], Some("pairs 37 to 39")),
+    ] {
+        let pairs: Vec<&str> = full.iter().copied().chain(rest).collect();
+        let size = "--width 160 --height 120";
+        let words = printed(demo(&format!("{size} --frames {frames}"), &folder));
+        let chunks = pairs.len();
+        for (pairs, number) in pairs.iter().zip(1..) {
+            let begin = format!("Layer {number} of {chunks}, for {pairs}: ");
+            let counts = numbers(&words, &format!("{begin}# dots at figure #, # at #."));
+            // Turned down, the figure finds more.
+            let more = counts[0] < counts[2] && counts[1] > counts[3];
+            assert!(more, "{begin}{counts:?}");
+        }
+        assert_eq!(words.matches("Layer ").count(), chunks, "{words}");
+        let heading = format!("What was found in chunk {middle} of {chunks} (the colours");
+        assert!(words.contains(&heading), "{words}");
+        let sent = format!("== sending layer {middle} to another desk");
+        assert!(words.contains(&sent), "{words}");
+    }
+}
+
+/// What is said of the middle chunk's layers while they come is what is counted at the end.
+#[test]
+fn the_middle_chunk_is_the_one_that_is_shown() {
+    let folder = fresh("middle");
+    let words = printed(demo("--width 160 --height 120", &folder));
+    let layer = numbers(
+        &words,
+        "Layer 2 of 3, for pairs 13 to 24: # dots at figure 72, # at 40.",
+    );
+    let passed = numbers(&words, "At evidence figure 72: # dots passed,");
+    let turned = "Turned down to 40: all # stayed as they were; # dots new,";
+    let turned = numbers(&words, turned);
+    assert_eq!(layer, [passed[0], turned[0] + turned[1]]);
+}
+
 /// The layer that is lifted went through a parcel of these bytes: 42, 4 a pixel of luma and of a chroma plane, 2 a cell.
 #[test]
 fn the_layer_is_sent_as_a_parcel() {
@@ -204,16 +251,8 @@ fn what_cannot_help_is_said_and_done_all_the_same() {
     let folder = fresh("notes");
     let small = "--width 160 --height 120";
     let words = printed(demo(&format!("{small} --frames 60 --evidence 90"), &folder));
-    assert!(
-        words.starts_with(
-            "== note Of the 59 pairs of 60 frames, 36 are added up, numbers 13 to 48:"
-        ),
-        "{words}"
-    );
-    assert!(
-        words.contains("== note Evidence figure 90 is out of reach, and nothing will pass at it:"),
-        "{words}"
-    );
+    let note = "== note Evidence figure 90 is out of reach, and nothing will pass at it:";
+    assert!(words.starts_with(note), "{words}");
     assert!(
         words.contains("At evidence figure 90: 0 dots passed, 0 of lettering and 0 not."),
         "{words}"

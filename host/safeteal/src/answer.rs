@@ -3,7 +3,7 @@
 use crate::error::Search;
 use crate::groups::{Form, LentLayer};
 use crate::plane::Shape;
-use crate::{ffi, Channel, Error, LayerOf, PlaneMut, Ratio, Refusal, Result, Size};
+use crate::{ffi, Channel, Error, LayerOf, PlaneMut, Progress, Ratio, Refusal, Result, Size};
 
 /// The count, or the refusal that the number names, with what the search finds in the arguments.
 pub(crate) fn counted(
@@ -33,9 +33,31 @@ pub(crate) fn sized(
     arguments: impl FnOnce(Search) -> Search,
 ) -> Result<Shape> {
     done(call, answer.word, arguments)?;
-    let ratio = Ratio::of_number(answer.ratio);
-    let ratio = ratio.expect("the linked library accepts ratios 1, 2 and 4 alone");
-    Ok((Size::new(answer.width, answer.height), ratio))
+    let size = Size::new(answer.width, answer.height);
+    Ok((size, accepted(answer.ratio)))
+}
+
+/// For a call on a walk: how far it has come then.
+pub(crate) fn walked(
+    call: &'static str,
+    answer: ffi::Walked,
+    arguments: impl FnOnce(Search) -> Search,
+) -> Result<Progress> {
+    done(call, answer.word, arguments)?;
+    let walk = answer.walk;
+    Ok(Progress {
+        size: Size::new(walk.width, walk.height),
+        ratio: accepted(walk.ratio),
+        pairs: walk.pairs,
+        added: walk.added,
+        taken: walk.taken,
+    })
+}
+
+/// The ratio of an accepted call.
+fn accepted(ratio: usize) -> Ratio {
+    let ratio = Ratio::of_number(ratio);
+    ratio.expect("the linked library accepts ratios 1, 2 and 4 alone")
 }
 
 /// For a call that writes one plane by a layer: `lent` are the names and sizes of the planes lent beside the output;

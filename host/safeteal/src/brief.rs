@@ -5,8 +5,8 @@ use std::fmt;
 
 use crate::layer::LentLayer;
 use crate::{
-    LayerBuf, LayerMut, LayerOf, Mask, Motion, MotionBuf, Part, Plane, PlaneBuf, PlaneMut, Sums,
-    Work,
+    LayerBuf, LayerMut, LayerOf, Mask, Motion, MotionBuf, Part, Plane, PlaneBuf, PlaneMut, Slot,
+    Sums, Walk, Work,
 };
 
 /// A member of a type, as `Debug` shows it.
@@ -38,7 +38,7 @@ impl<T: Brief + ?Sized> Brief for &mut T {
     }
 }
 
-impl<T: Brief> Brief for [T; 2] {
+impl<T: Brief, const N: usize> Brief for [T; N] {
     fn brief(&self, f: &mut fmt::Formatter<'_>) -> fmt::Result {
         f.debug_list().entries(self.iter().map(Shown)).finish()
     }
@@ -98,6 +98,8 @@ brief! {
         (luma = it.layer().luma, chroma = it.layer().chroma);
     LayerMut [fmt::Debug for LayerMut<'_>] |it| () (luma = it.luma, chroma = it.chroma);
     Work [fmt::Debug for Work<'_>] |it| () (models = it.models, kept = it.kept, cover = it.cover);
+    Slot [fmt::Debug for Slot<'_>] |it| () (luma = it.luma, chroma = it.chroma);
+    Walk [fmt::Debug for Walk] |it| (progress = it.progress()) (luma = it.sums.each_ref().map(|sums| &sums.luma));
 }
 
 impl fmt::Debug for MotionBuf {
@@ -108,7 +110,7 @@ impl fmt::Debug for MotionBuf {
 
 #[cfg(test)]
 mod tests {
-    use crate::{Frame, LayerBuf, MotionBuf, Pair, Ratio, Size, Sums};
+    use crate::{Frame, LayerBuf, MotionBuf, Pair, Ratio, Size, Sums, Walk};
 
     #[test]
     fn lengths_are_shown_and_no_numbers() -> crate::Result<()> {
@@ -116,14 +118,20 @@ mod tests {
         let frame = Frame::new(size, Ratio::Two, [1, 2, 3])?;
         let motion = MotionBuf::still(size)?;
         let pair = Pair::of(&frame, &frame, &motion)?;
-        let (sums, layer) = (
+        let (sums, layer, walk) = (
             Sums::new(size, Ratio::Two)?,
             LayerBuf::new(size, Ratio::Two)?,
+            Walk::new(size, Ratio::Two, 30)?,
         );
         assert_eq!(
             format!("{layer:?}"),
             "LayerBuf { size: Size { width: 16, height: 8 }, ratio: Two, luma: [i16; 256], \
              chroma: [[i16; 64], [i16; 64]] }"
+        );
+        assert_eq!(
+            format!("{walk:?}"),
+            "Walk { progress: Progress { size: Size { width: 16, height: 8 }, ratio: Two, pairs: 30, added: 0, \
+             taken: 0 }, luma: [[f32; 768], [f32; 768], [f32; 768]] }"
         );
         let shown = [
             format!("{frame:?} {:?}", frame.planes()),

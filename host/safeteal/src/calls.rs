@@ -1,4 +1,4 @@
-//! The calls, a file for each. A call that is a method of a layer or of sums needs its first line only.
+//! The calls, a file for each. A call that is a method of a layer, of sums or of a walk needs its first line only.
 
 mod whole;
 pub use whole::Counts;
@@ -28,7 +28,9 @@ pub use assemble::assemble;
 
 mod fit;
 pub use fit::{fit, Settings, Work};
-pub(crate) use fit::{fitted, parts};
+pub(crate) use fit::{fitted, parts, WorkBuf};
+
+mod walk;
 
 mod render;
 

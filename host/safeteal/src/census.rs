@@ -2,10 +2,10 @@
 
 use std::fmt;
 
-use crate::calls::{fitted, parts};
+use crate::calls::{fitted, parts, WorkBuf};
 use crate::error::Error;
 use crate::{
-    Channel, LayerBuf, Parts, PlaneBuf, Ratio, Refusal, Result, Settings, Size, Sums, Texel, Work,
+    Channel, LayerBuf, Parts, PlaneBuf, Ratio, Refusal, Result, Settings, Size, Sums, Texel,
 };
 
 /// How many dots pass at an evidence figure.
@@ -158,23 +158,18 @@ struct Desk<'a> {
     parts: Parts<'a>,
     settings: Settings,
     layer: LayerBuf,
-    models: Vec<f32>,
-    kept: Vec<u8>,
-    cover: Vec<u8>,
+    work: WorkBuf,
     /// Planes to peel from and to: only the count is of interest.
     planes: [PlaneBuf; 2],
 }
 
 impl<'a> Desk<'a> {
     fn new(parts: Parts<'a>, size: Size, ratio: Ratio, settings: Settings) -> Result<Self> {
-        let pixels = size.width * size.height;
         Ok(Self {
             parts,
             settings,
             layer: LayerBuf::new(size, ratio)?,
-            models: vec![0.0; 4 * pixels],
-            kept: vec![0; pixels],
-            cover: vec![0; size.cells()],
+            work: WorkBuf::new(size),
             planes: [PlaneBuf::new(size, 0)?, PlaneBuf::new(size, 0)?],
         })
     }
@@ -184,14 +179,9 @@ impl<'a> Desk<'a> {
             evidence,
             ..self.settings
         };
-        let (size, ratio) = (self.layer.size(), self.layer.ratio());
-        let work = Work {
-            models: &mut self.models,
-            kept: &mut self.kept,
-            cover: &mut self.cover,
-        };
-        let layer = self.layer.layer_mut();
-        fitted(CALL, self.parts, (size, ratio), settings, work, layer)?;
+        let shape = (self.layer.size(), self.layer.ratio());
+        let (work, layer) = (self.work.work(), self.layer.layer_mut());
+        fitted(CALL, self.parts, shape, settings, work, layer)?;
         let layer = self.layer.layer();
         let [raw, output] = &mut self.planes;
         let peeled = layer.peel(Channel::Luma, output.plane_mut(), raw.plane())?;

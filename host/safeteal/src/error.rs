@@ -6,10 +6,12 @@ use crate::{Refusal, Size, Sums};
 
 mod parcel;
 mod search;
+mod turn;
 mod unlike;
 mod why;
 use parcel::Flaw;
 pub(crate) use search::Search;
+use turn::Turn;
 use unlike::Unlike;
 use why::many;
 pub(crate) use why::Why;
@@ -141,6 +143,7 @@ pub(crate) enum Fault {
     StepAcross(usize, usize),
     StepDown(usize, usize, usize),
     Parcel(Flaw),
+    Turn(Turn),
 }
 
 impl fmt::Display for Fault {
@@ -181,6 +184,7 @@ impl fmt::Display for Fault {
                 many(length, "byte")
             ),
             Fault::Parcel(flaw) => flaw.fmt(f),
+            Fault::Turn(turn) => turn.fmt(f),
         }
     }
 }

@@ -1,7 +1,8 @@
 //! The C interface of the proved library, on one page: each function of safeteal.h once, with its slices.
 //!
 //! No other module of this package has unsafe code. An answer of `u64` is `count * 256 + number`, but for the single
-//! floats at the end; an answer of more numbers is a struct, and its `word` is such a number.
+//! floats at the end; an answer of more numbers is a struct, and its `word` is such a number. A walk goes in and out as
+//! a struct as well.
 #![allow(unsafe_code, clippy::too_many_arguments)]
 
 /// For each function of the list its declaration, where a slice is a pointer and a length in elements, and the safe
@@ -27,6 +28,21 @@ macro_rules! proved {
     (@ $made:tt [$($done:tt)*] [frames], $($rest:tt)*) => {
         proved! {@ $made [
             $($done)* first: &[u8], first_pitch: usize, second: &[u8], second_pitch: usize, time: f32,
+        ] $($rest)*}
+    };
+    (@ $made:tt [$($done:tt)*] [planes], $($rest:tt)*) => {
+        proved! {@ $made [
+            $($done)*
+            first0: &[u8], first0_pitch: usize, first1: &[u8], first1_pitch: usize, first2: &[u8], first2_pitch: usize,
+            second0: &[u8], second0_pitch: usize, second1: &[u8], second1_pitch: usize,
+            second2: &[u8], second2_pitch: usize,
+        ] $($rest)*}
+    };
+    (@ $made:tt [$($done:tt)*] [slots $($lent:tt)*], $($rest:tt)*) => {
+        proved! {@ $made [
+            $($done)* luma0: $($lent)*, chroma01: $($lent)*, chroma02: $($lent)*,
+            luma1: $($lent)*, chroma11: $($lent)*, chroma12: $($lent)*,
+            luma2: $($lent)*, chroma21: $($lent)*, chroma22: $($lent)*,
         ] $($rest)*}
     };
     (@ $made:tt [$($done:tt)*] [motion], $($rest:tt)*) => {
@@ -86,8 +102,8 @@ macro_rules! proved {
     };
 }
 
-/// For each struct of the list its declaration; its fields are numbers.
-macro_rules! answers {
+/// For each struct of the list its declaration; its fields are numbers, or a struct before it.
+macro_rules! structs {
     ($($(#[$doc:meta])* struct $name:ident { $($(#[$note:meta])* $field:ident: $number:ident,)* })*) => {
         $(
             $(#[$doc])*
@@ -103,7 +119,7 @@ macro_rules! answers {
     };
 }
 
-answers! {
+structs! {
     /// What a parcel's head says, all 0 when the parcel is refused.
     struct Sizes {
         /// `count * 256 + number`; the count is 0.
@@ -115,16 +131,37 @@ answers! {
         /// Luma pixels a chroma pixel, in either direction.
         ratio: usize,
     }
+
+    /// How far a walk over a clip has come.
+    struct Walk {
+        /// In luma pixels.
+        width: usize,
+        /// In luma pixels.
+        height: usize,
+        /// Luma pixels a chroma pixel, in either direction.
+        ratio: usize,
+        /// The clip's pairs.
+        pairs: usize,
+        /// The pairs that were handed over.
+        added: usize,
+        /// The layers that were taken.
+        taken: usize,
+    }
+
+    /// A walk as a call leaves it: a refused start leaves all 0, any other refused call the walk that it was given.
+    struct Walked {
+        /// `count * 256 + number`; the count is 0.
+        word: u64,
+        /// The walk to go on with.
+        walk: Walk,
+    }
 }
 
 proved! {
     /// Adds one pair of frames to the sums.
     fn stats(
         luma: &mut [f32], chroma1: &mut [f32], chroma2: &mut [f32], pairs: usize,
-        width: usize, height: usize, ratio: usize,
-        first0: &[u8], first0_pitch: usize, first1: &[u8], first1_pitch: usize, first2: &[u8], first2_pitch: usize,
-        second0: &[u8], second0_pitch: usize, second1: &[u8], second1_pitch: usize, second2: &[u8], second2_pitch: usize,
-        [motion],
+        width: usize, height: usize, ratio: usize, [planes], [motion],
     ) -> u64;
 
     /// Fits a layer to three parts of sums.
@@ -142,6 +179,22 @@ proved! {
         width: usize, height: usize, ratio: usize, models: &[f32], cover: &[u8],
         luma: &mut [i16], chroma1: &mut [i16], chroma2: &mut [i16],
     ) -> u64;
+
+    /// Starts a walk over a clip of that many pairs.
+    fn walk_start(width: usize, height: usize, ratio: usize, pairs: usize) -> Walked;
+
+    /// Adds the pair of that number to its chunk's part.
+    fn walk_pair(walk: Walk, [slots &mut [f32]], number: usize, [planes], [motion]) -> Walked;
+
+    /// Fits the layer that is due.
+    fn walk_layer(
+        walk: Walk, [slots &[f32]], limit: f32, evidence: f32, strict: bool,
+        models: &mut [f32], kept: &mut [u8], cover: &mut [u8],
+        luma: &mut [i16], chroma1: &mut [i16], chroma2: &mut [i16],
+    ) -> Walked;
+
+    /// Whether a layer is due; the yes takes the count's place.
+    fn walk_due(walk: Walk) -> u64;
 
     /// Lifts the layer off one plane; the layer is lent as little-endian bytes.
     fn peel([layer of u8], [output], raw: &[u8], raw_pitch: usize) -> u64;

@@ -8,7 +8,7 @@ use std::mem::size_of_val;
 
 use crate::{
     ffi, Channel, Frames, LayerMut, LayerOf, Motion, Pair, Part, Plane, PlaneMut, Ratio, Settings,
-    Size, Work,
+    Size, Slot, Work,
 };
 
 pub use crate::layer::LentLayer;
@@ -72,6 +72,18 @@ macro_rules! call {
             $it.block.0, $it.block.1, $it.origin.0, $it.origin.1, $it.pel,
         ] $($rest)*)
     };
+    (@ $name:ident [$($done:tt)*] $it:ident as pair, $($rest:tt)*) => {{
+        let motion = $it.motion;
+        call!(@ $name [
+            $($done)* $it.first[0].data, $it.first[0].pitch, $it.first[1].data, $it.first[1].pitch,
+            $it.first[2].data, $it.first[2].pitch, $it.second[0].data, $it.second[0].pitch,
+            $it.second[1].data, $it.second[1].pitch, $it.second[2].data, $it.second[2].pitch,
+        ] motion as motion, $($rest)*)
+    }};
+    (@ $name:ident [$($done:tt)*] $it:ident as slots, $($rest:tt)*) => {{
+        let [[a, b, c], [d, e, f], [g, h, i]] = $it;
+        call!(@ $name [$($done)* a, b, c, d, e, f, g, h, i,] $($rest)*)
+    }};
     (@ $name:ident [$($done:tt)*] $it:expr, $($rest:tt)*) => {
         call!(@ $name [$($done)* $it,] $($rest)*)
     };
@@ -177,8 +189,6 @@ pub fn stats(
     ratio: usize,
     pair: &Pair<'_>,
 ) -> u64 {
-    let ([first0, first1, first2], [second0, second1, second2]) = (pair.first, pair.second);
-    let motion = pair.motion;
     call!(stats(
         luma,
         chroma1,
@@ -186,13 +196,7 @@ pub fn stats(
         pairs,
         size as size,
         ratio,
-        first0 as plane,
-        first1 as plane,
-        first2 as plane,
-        second0 as plane,
-        second1 as plane,
-        second2 as plane,
-        motion as motion,
+        pair as pair
     ))
 }
 
@@ -220,6 +224,47 @@ pub fn fit(
         evidence,
         strict,
         ratio,
+        work.models,
+        work.kept,
+        work.cover,
+        layer.luma,
+        chroma1,
+        chroma2,
+    ))
+}
+
+/// Adds the pair of that number to its chunk's part.
+pub fn walk_pair(
+    walk: ffi::Walk,
+    slots: &mut [Slot<'_>; 3],
+    number: usize,
+    pair: &Pair<'_>,
+) -> ffi::Walked {
+    let slots = slots.each_mut().map(Slot::slices_mut);
+    call!(walk_pair(walk, slots as slots, number, pair as pair))
+}
+
+/// Fits the layer that is due.
+pub fn walk_layer(
+    walk: ffi::Walk,
+    slots: &[Slot<'_>; 3],
+    settings: Settings,
+    work: &mut Work<'_>,
+    layer: &mut LayerMut<'_>,
+) -> ffi::Walked {
+    let Settings {
+        limit,
+        evidence,
+        strict,
+    } = settings;
+    let slots = slots.each_ref().map(Slot::slices);
+    let [chroma1, chroma2] = &mut layer.chroma;
+    call!(walk_layer(
+        walk,
+        slots as slots,
+        limit,
+        evidence,
+        strict,
         work.models,
         work.kept,
         work.cover,

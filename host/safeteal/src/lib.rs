@@ -22,6 +22,7 @@ mod records;
 mod refusal;
 mod sums;
 mod texels;
+mod walk;
 mod words;
 
 pub use calls::*;
@@ -35,6 +36,7 @@ pub use plane::{Channel, Frame, Mask, Plane, PlaneBuf, PlaneMut, Ratio, Size};
 pub use refusal::Refusal;
 pub use sums::{Part, Parts, Sums};
 pub use texels::{Texel, Texels};
+pub use walk::{Progress, Slot, Walk};
 
 #[doc(hidden)]
 #[allow(missing_docs)]

@@ -214,7 +214,8 @@ impl<'a> Frames<'a> {
 
 /// Two neighbouring frames with the motion between them.
 ///
-/// [`Sums::add`](crate::Sums::add) and [`stats`](crate::stats) hold all its sizes against the sums'.
+/// [`Sums::add`](crate::Sums::add) and [`stats`](crate::stats) hold all its sizes against the sums', and
+/// [`Walk::push`](crate::Walk::push) against the walk's.
 #[derive(Clone, Copy, Debug, PartialEq, Eq)]
 pub struct Pair<'a> {
     /// The three planes of the first frame.

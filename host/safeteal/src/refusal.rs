@@ -56,6 +56,11 @@ numbered! {
         Payload = 11 =>
             "the parcel's head has not six bytes, or says a width or height outside 1 to 4096 or a ratio that is \
              not 1, 2 or 4 or does not divide them, or a payload has not the length that the head calls for",
+        /// 12: a pair that a walk is handed over out of turn, after the clip's last or while a layer is due; or a layer
+        /// that is taken when none is due.
+        Turn = 12 =>
+            "a pair is out of turn, after the clip's last, or handed over while a layer is due, or a layer is taken \
+             when none is due: hand over pairs 0, 1, 2 and so on, and take each layer before the next pair",
     }
 }
 
@@ -82,7 +87,7 @@ mod tests {
 
     #[test]
     fn numbers_and_names_agree() {
-        let numbers = [1, 2, 3, 4, 5, 6, 7, 9, 10, 11];
+        let numbers = [1, 2, 3, 4, 5, 6, 7, 9, 10, 11, 12];
         let answered = |number| Refusal::answered(number).expect("a refusal");
         assert_eq!(numbers.map(answered), Refusal::ALL);
         assert_eq!(numbers.map(|number| answered(number).number()), numbers);

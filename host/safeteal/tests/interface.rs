@@ -26,7 +26,7 @@ fn proved() -> Interface {
         let slice = || kind.strip_prefix('&')?.strip_suffix(']')?.split_once('[');
         let pointer = |to: &str| vec![format!("*{to} {name}"), format!("usize {name}_len")];
         let Some((borrowed, of)) = slice() else {
-            return vec![format!("{kind} {name}")];
+            return vec![format!("{} {name}", bare(kind))];
         };
         let words: Vec<&str> = borrowed.split_whitespace().collect();
         match words[..] {
@@ -43,15 +43,20 @@ fn proved() -> Interface {
         let name = name.split('<').next().expect("a name");
         let (parameters, rest) = rest.split_once(") -> ").expect("an answer");
         let parameters = parameters.trim_end().trim_end_matches(',').split(',');
-        // a struct may be named with its crate
         let answer = rest.split_whitespace().next().expect("an answer");
-        let answer = answer.rsplit("::").next().map(str::to_owned);
-        let lines = parameters.flat_map(parameter).chain(answer);
+        let lines = parameters
+            .flat_map(parameter)
+            .chain([bare(answer).to_owned()]);
         (name.to_owned(), lines.collect())
     };
     let text = read(&package().join("../../crates/host/src/lib.rt"));
     let functions = text.split("pub extern \"C\" fn ").skip(1);
     functions.map(function).collect()
+}
+
+/// A type's own name: a struct may be named with its crate.
+fn bare(kind: &str) -> &str {
+    kind.rsplit("::").next().expect("a name")
 }
 
 /// A list of `src/ffi.rs`.
@@ -100,20 +105,20 @@ fn without_bodies(text: &str) -> String {
 
 /// A parameter of the header in Rust's words. A slice that is written is `restrict`, and no other is.
 fn parameter(text: &str) -> String {
-    let (of, name) = text.trim().rsplit_once(' ').expect("a type and a name");
-    match (name.strip_prefix('*'), of.strip_prefix("const ")) {
-        (Some(name), Some(of)) => format!("*const {} {name}", kind(of)),
-        (None, None) => match of.strip_suffix(" *restrict") {
-            Some(of) => format!("*mut {} {name}", kind(of)),
-            None => format!("{} {name}", kind(of)),
-        },
+    let text = text.trim();
+    let ends = text.rfind([' ', '*']).expect("a type and a name") + 1;
+    let (of, name) = (text[..ends].trim_end(), &text[ends..]);
+    match of.split(' ').collect::<Vec<_>>()[..] {
+        ["const", of, "*"] => format!("*const {} {name}", kind(of)),
+        [of, "*restrict"] => format!("*mut {} {name}", kind(of)),
+        _ if !of.contains('*') => format!("{} {name}", kind(of)),
         _ => panic!("{text:?}: a pointer is const or restrict"),
     }
 }
 
 /// A type of C in Rust's words.
 fn kind(c: &str) -> &'static str {
-    const TYPES: [(&str, &str); 9] = [
+    const TYPES: [(&str, &str); 11] = [
         ("uint8_t", "u8"),
         ("int16_t", "i16"),
         ("uint16_t", "u16"),
@@ -123,6 +128,8 @@ fn kind(c: &str) -> &'static str {
         ("float", "f32"),
         ("_Bool", "bool"),
         ("struct safeteal_sizes", "Sizes"),
+        ("struct safeteal_walk", "Walk"),
+        ("struct safeteal_walked", "Walked"),
     ];
     let found = TYPES.iter().find(|(name, _)| *name == c);
     found.unwrap_or_else(|| panic!("the type {c:?}")).1
@@ -147,8 +154,9 @@ fn header() -> Interface {
 /// The structs of a text that are declared with these words before them, field by field: each field ends with `end`,
 /// and `field` says it in Rust's words.
 fn structs(text: &str, before: &str, end: char, field: impl Fn(&str) -> String) -> Interface {
-    let declarations = text.split(before).skip(1).filter_map(|text| {
-        let (name, rest) = text.split_once(' ')?;
+    // a field may be such a struct as well
+    let declarations = text.match_indices(before).filter_map(|(at, _)| {
+        let (name, rest) = text[at + before.len()..].split_once(' ')?;
         let (fields, _) = rest.strip_prefix('{')?.split_once('}')?;
         let fields = fields.split(end).map(str::trim);
         let fields = fields.filter(|text| !text.is_empty()).map(&field);
@@ -157,7 +165,7 @@ fn structs(text: &str, before: &str, end: char, field: impl Fn(&str) -> String) 
     declarations.collect()
 }
 
-/// An answer of more numbers than one: the same fields wherever it is declared, in the same order.
+/// What passes as more numbers than one: the same fields wherever it is declared, in the same order.
 #[test]
 fn the_structs_are_those_that_are_proved() {
     let text = read(&package().join("../../crates/rules/src/lib.rt"));
@@ -166,7 +174,7 @@ fn the_structs_are_those_that_are_proved() {
         let (name, of) = text.split_once(": ").expect("a name and a type");
         format!("{of} {name}")
     });
-    assert_eq!(proved.len(), 1, "{proved:?}");
+    assert_eq!(proved.len(), 3, "{proved:?}");
     assert_eq!(lists(safeteal::ffi::STRUCTS), proved, "in src/ffi.rs");
     let header = structs(&expanded(), "struct safeteal_", ';', parameter);
     let header = header.into_iter().map(|(name, fields)| {
@@ -179,8 +187,8 @@ fn the_structs_are_those_that_are_proved() {
 #[test]
 fn the_declarations_are_those_that_are_proved() {
     let (proved, declared, header) = (proved(), lists(safeteal::ffi::DECLARED), header());
-    assert_eq!(proved.len(), 18);
-    assert_eq!((declared.len(), header.len()), (18, 18));
+    assert_eq!(proved.len(), 22);
+    assert_eq!((declared.len(), header.len()), (22, 22));
     for ((name, _), (other, _)) in declared.iter().zip(&header) {
         assert_eq!(name, other, "src/ffi.rs and safeteal.h have one order");
     }

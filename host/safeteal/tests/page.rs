@@ -2,7 +2,7 @@
 
 use std::mem::size_of_val;
 
-use safeteal::{Channel, Frame, LayerBuf, MotionBuf, Ratio, Size, Sums};
+use safeteal::{Channel, Frame, LayerBuf, MotionBuf, Ratio, Size, Sums, Walk};
 
 /// The formulas, and the figures at 1920 by 1080 in hundred thousands of bytes.
 #[test]
@@ -44,6 +44,24 @@ fn the_memory_that_each_owns() {
     let work = 17 * luma + size.cells();
     assert_eq!(figure(work), 353);
     assert_eq!((3 * of_sums + work + of_layer + 500_000) / 1_000_000, 222);
+}
+
+/// A walk says its bytes beforehand; no number wraps.
+#[test]
+fn the_bytes_of_a_walk() {
+    let (luma, chroma, cells) = (1920 * 1080, 960 * 540, 240 * 135);
+    let bytes = Walk::bytes(Size::new(1920, 1080), Ratio::Two);
+    assert_eq!(bytes, 89 * luma + 48 * chroma + cells);
+    assert_eq!((bytes + 50_000) / 100_000, 2095);
+    for side in [1, 7, 8, 9, 4096] {
+        let size = Size::new(side, 16);
+        let (pixels, cells) = (16 * side, 2 * side.div_ceil(8));
+        let bytes = 3 * (24 + 16) * pixels + 17 * pixels + cells;
+        assert_eq!(Walk::bytes(size, Ratio::One), bytes, "{size}");
+    }
+    for side in [usize::MAX / 2, usize::MAX] {
+        assert_eq!(Walk::bytes(Size::new(side, side), Ratio::Four), usize::MAX);
+    }
 }
 
 #[test]

@@ -7,7 +7,7 @@ use std::hash::Hash;
 use safeteal::{
     Cells, Census, Channel, Difference, Dot, Error, Fate, Fates, Frame, Frames, Layer, LayerBuf,
     LayerBytes, LayerMut, Limits, Mask, Motion, MotionBuf, Pair, Part, Passed, Plane, PlaneBuf,
-    PlaneMut, Ratio, Refusal, Settings, Size, Sums, Texel, Texels, Work,
+    PlaneMut, Progress, Ratio, Refusal, Settings, Size, Slot, Sums, Texel, Texels, Walk, Work,
 };
 
 /// Goes from thread to thread, is shared by threads, is shown and compared.
@@ -27,6 +27,7 @@ fn threads_and_debug_and_equality() {
     owned::<Sums>();
     owned::<LayerBuf>();
     owned::<Census>();
+    owned::<Walk>();
     copied::<Plane<'_>>();
     copied::<Mask<'_>>();
     copied::<Motion<'_>>();
@@ -44,6 +45,7 @@ fn threads_and_debug_and_equality() {
     usual::<PlaneMut<'_>>();
     usual::<LayerMut<'_>>();
     usual::<Work<'_>>();
+    usual::<Slot<'_>>();
 }
 
 #[test]
@@ -56,6 +58,7 @@ fn keys_and_words() {
     key::<Fates>();
     key::<Dot>();
     key::<Passed>();
+    key::<Progress>();
     said::<Size>();
     said::<Ratio>();
     said::<Channel>();

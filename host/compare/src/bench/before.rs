@@ -4,11 +4,13 @@
 use std::time::Duration;
 
 use super::{timed, Workload};
+use crate::check::walks::CALLS;
 use crate::copies::{choose, ABSENT, COPIES};
+use crate::names::WALKS;
 use crate::report::csv::Fields;
 use crate::report::rows::{four, sized};
 
-/// The sizes of luma, and how many rounds each gets unless another number is asked for.
+/// The sizes of luma, and how many rounds each gets unless another number is asked for; whole walks get fewer.
 pub const SIZES: [(usize, usize, usize); 4] = [
     (64, 64, 1000),
     (512, 512, 250),
@@ -22,7 +24,7 @@ pub const USUAL: [(usize, usize); 2] = [(64, 64), (1920, 1080)];
 /// A turn lasts at least so long: that many calls are made in it.
 const TURN: Duration = Duration::from_micros(200);
 
-/// The turns of the Rust, or of the copy, which is there to be seen beside and decides nothing.
+/// The turns of the Rust, or of what else stands beside, which is there to be seen and decides nothing.
 const BESIDE: usize = 3;
 
 /// A share of the other library's time that a change may cost.
@@ -52,7 +54,7 @@ pub struct Compared {
     ratios: Vec<f64>,
 }
 
-/// A row: by the shortest turns, and by the rounds, with the middle half of those; beside the Rust, or a copy.
+/// A row: by the shortest turns, and by the rounds, with the middle half of those; with what stands beside.
 impl Fields for Compared {
     const HEAD: &'static [&'static str] = &[
         "call",
@@ -98,9 +100,13 @@ impl Compared {
     }
 }
 
-/// Whether both libraries have its call: an older one lacks those that were added since.
+/// Whether both libraries have its call, or the calls of a walk: an older one lacks those that were added since.
 pub fn in_both(workload: &Workload) -> bool {
-    !ABSENT.contains(&workload.call)
+    let makes = |call: &&str| match workload.call {
+        WALKS => CALLS.contains(call),
+        name => name == *call,
+    };
+    !ABSENT.iter().any(makes)
 }
 
 /// Measures a workload on both libraries, which have its call. A round is four turns, before, now, now, before: what

@@ -1,10 +1,12 @@
 use std::hint::black_box;
 
 use super::scene::{Lettering, RATIO};
+use super::slices::Fitting;
 use super::{Sides, Workload};
 use crate::check::rng::Rng;
 use crate::oracle::layer as rust;
-use safeteal::ffi;
+use safeteal::groups::ABSENT;
+use safeteal::{groups, Part, Settings, Size};
 
 pub const WORKLOADS: &[Workload] = &[
     Workload::new("fit", "three parts of twelve pairs", |width, height| {
@@ -32,14 +34,9 @@ const LIMIT: f32 = 6.0;
 
 struct Fit {
     parts: [Option<rust::Stats>; 3],
-    evidence: f32,
-    strict: bool,
-    size: (usize, usize),
-    models: Vec<f32>,
-    kept: Vec<u8>,
-    cover: Vec<u8>,
-    luma: Vec<i16>,
-    chroma: [Vec<i16>; 2],
+    settings: Settings,
+    size: Size,
+    made: Fitting,
     rust: Option<rust::Fit>,
 }
 
@@ -51,23 +48,22 @@ fn made(
     height: usize,
 ) -> Box<dyn Sides> {
     let part = |seed: u64, there: bool| there.then(|| sums(seed, width, height));
-    let chroma = vec![0; 2 * (width / RATIO) * (height / RATIO)];
+    let size = Size::new(width, height);
     Box::new(Fit {
         parts: [part(1, neighbours), part(2, true), part(3, neighbours)],
-        evidence,
-        strict,
-        size: (width, height),
-        models: vec![0.0; 4 * width * height],
-        kept: vec![0; width * height],
-        cover: vec![0; width.div_ceil(8) * height.div_ceil(8)],
-        luma: vec![0; 2 * width * height],
-        chroma: [chroma.clone(), chroma],
+        settings: Settings {
+            limit: LIMIT,
+            evidence,
+            strict,
+        },
+        size,
+        made: Fitting::new(size),
         rust: None,
     })
 }
 
 /// Sums of a clip with a logo. Pixels repeat after 4096, so that large sizes are made quickly.
-fn sums(seed: u64, width: usize, height: usize) -> rust::Stats {
+pub fn sums(seed: u64, width: usize, height: usize) -> rust::Stats {
     let mut rng = Rng::of(seed, "sums", 0);
     let mut pixels = |gain: f32, offset: f32| -> Vec<[f32; 6]> {
         (0..4096).map(|_| pixel(&mut rng, gain, offset)).collect()
@@ -100,68 +96,44 @@ fn pixel(rng: &mut Rng, gain: f32, offset: f32) -> [f32; 6] {
     sums
 }
 
-/// A part as our side is lent it.
-fn lent(part: &Option<rust::Stats>) -> ([&[f32]; 3], usize) {
-    match part {
-        None => ([&[]; 3], 0),
-        Some(part) => {
-            let [chroma1, chroma2] = part.chroma();
-            let chroma = (chroma1.as_flattened(), chroma2.as_flattened());
-            ([part.luma().as_flattened(), chroma.0, chroma.1], PAIRS)
-        }
+/// A part of twelve pairs with these sums.
+pub fn part(sums: &rust::Stats) -> Part<'_> {
+    let [chroma1, chroma2] = sums.chroma();
+    Part {
+        luma: sums.luma().as_flattened(),
+        chroma: [chroma1.as_flattened(), chroma2.as_flattened()],
+        pairs: PAIRS,
     }
 }
 
 impl Sides for Fit {
     fn pixels(&self) -> usize {
-        self.size.0 * self.size.1
+        self.size.width * self.size.height
     }
 
     fn ours(&mut self) {
-        let [previous, own, next] = [0, 1, 2].map(|at| lent(black_box(&self.parts[at])));
-        let [chroma1, chroma2] = &mut self.chroma;
-        black_box(ffi::fit(
-            previous.0[0],
-            previous.0[1],
-            previous.0[2],
-            previous.1,
-            own.0[0],
-            own.0[1],
-            own.0[2],
-            own.1,
-            next.0[0],
-            next.0[1],
-            next.0[2],
-            next.1,
-            self.size.0,
-            self.size.1,
-            LIMIT,
-            self.evidence,
-            self.strict,
+        let parts = self.parts.each_ref();
+        let parts = parts.map(|sums| sums.as_ref().map_or(ABSENT, part));
+        let (mut work, mut layer) = self.made.lent();
+        black_box(groups::fit(
+            black_box(parts),
+            self.size,
+            self.settings,
             RATIO,
-            black_box(&mut self.models),
-            black_box(&mut self.kept),
-            black_box(&mut self.cover),
-            black_box(&mut self.luma),
-            black_box(chroma1),
-            black_box(chroma2),
+            black_box(&mut work),
+            black_box(&mut layer),
         ));
     }
 
     fn theirs(&mut self) {
-        let parts = black_box([0, 1, 2].map(|at| self.parts[at].as_ref()));
-        self.rust = black_box(rust::fit(
-            parts,
-            self.size,
-            LIMIT,
-            self.evidence,
-            self.strict,
-            RATIO,
-        ));
+        let parts = black_box(self.parts.each_ref().map(Option::as_ref));
+        let (size, settings) = ((self.size.width, self.size.height), self.settings);
+        let (limit, proof, strict) = (settings.limit, settings.evidence, settings.strict);
+        self.rust = black_box(rust::fit(parts, size, limit, proof, strict, RATIO));
     }
 
     fn same(&mut self) -> bool {
         let rust = self.rust.as_ref().expect("the Rust had its turn");
-        self.luma == rust.luma && self.chroma == rust.chroma
+        self.made.is(rust)
     }
 }

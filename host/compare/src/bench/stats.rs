@@ -1,6 +1,7 @@
 use std::hint::black_box;
 
 use super::scene::{plane, Fields, Moves, RATIO};
+use super::slices::Sums;
 use super::{Sides, Workload};
 use crate::oracle::layer as rust;
 use safeteal::{groups, Pair, PlaneBuf, Size};
@@ -26,20 +27,32 @@ pub const WORKLOADS: &[Workload] = &[
 struct Stats {
     pair: Lent,
     size: Size,
-    luma: Vec<f32>,
-    chroma: [Vec<f32>; 2],
+    sums: Sums,
     rust: Option<rust::Stats>,
 }
 
 /// Two frames and the motion between them.
-struct Lent {
+pub struct Lent {
     first: [PlaneBuf; 3],
     second: [PlaneBuf; 3],
     motion: Fields,
 }
 
 impl Lent {
-    fn pair(&self) -> Pair<'_> {
+    pub fn new(moves: Moves, size: Size) -> Self {
+        let half = Size::new(size.width / RATIO, size.height / RATIO);
+        let planes = |moved, seed| {
+            let chroma = |seed| plane(half, moved / RATIO, seed);
+            [plane(size, moved, seed), chroma(seed + 1), chroma(seed + 2)]
+        };
+        Self {
+            first: planes(0, 1),
+            second: planes(4, 11),
+            motion: Fields::new(moves, size),
+        }
+    }
+
+    pub fn pair(&self) -> Pair<'_> {
         let [first, second] =
             [&self.first, &self.second].map(|frame| frame.each_ref().map(PlaneBuf::plane));
         Pair {
@@ -51,24 +64,11 @@ impl Lent {
 }
 
 fn made(moves: Moves, width: usize, height: usize) -> Box<dyn Sides> {
-    let (size, half) = (
-        Size::new(width, height),
-        Size::new(width / RATIO, height / RATIO),
-    );
-    let planes = |moved, seed| {
-        let chroma = |seed| plane(half, moved / RATIO, seed);
-        [plane(size, moved, seed), chroma(seed + 1), chroma(seed + 2)]
-    };
-    let chroma = vec![0.0; 2 * half.width * half.height];
+    let size = Size::new(width, height);
     Box::new(Stats {
-        pair: Lent {
-            first: planes(0, 1),
-            second: planes(4, 11),
-            motion: Fields::new(moves, size),
-        },
+        pair: Lent::new(moves, size),
         size,
-        luma: vec![0.0; 6 * width * height],
-        chroma: [chroma.clone(), chroma],
+        sums: Sums::new(size),
         rust: None,
     })
 }
@@ -79,10 +79,15 @@ impl Sides for Stats {
     }
 
     fn ours(&mut self) {
-        let pair = black_box(self.pair.pair());
-        let [chroma1, chroma2] = &mut self.chroma;
-        let (luma, chroma) = black_box((&mut self.luma, [&mut chroma1[..], chroma2]));
-        black_box(groups::stats(luma, chroma, 0, self.size, RATIO, &pair));
+        let (pair, sums) = black_box((self.pair.pair(), self.sums.slot()));
+        black_box(groups::stats(
+            sums.luma,
+            sums.chroma,
+            0,
+            self.size,
+            RATIO,
+            &pair,
+        ));
     }
 
     fn theirs(&mut self) {
@@ -93,9 +98,6 @@ impl Sides for Stats {
 
     fn same(&mut self) -> bool {
         let rust = self.rust.as_ref().expect("the Rust had its turn");
-        let chroma = rust.chroma();
-        self.luma == rust.luma().as_flattened()
-            && self.chroma[0] == chroma[0].as_flattened()
-            && self.chroma[1] == chroma[1].as_flattened()
+        self.sums.are(rust)
     }
 }

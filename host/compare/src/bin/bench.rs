@@ -13,8 +13,8 @@ use words::{line, print, Asked, Command, Takes, Word};
 
 const COMMAND: Command = Command {
     name: "bench",
-    does: "each call beside the Rust on one thread (a parcel's calls beside a plain copy): a row for each workload and \
-           size, then a line for each call",
+    does: "each call beside the Rust on one thread (a parcel's calls beside a plain copy, a walk's beside stats and \
+           fit by hand): a row for each workload and size, then a line for each call",
     plain: &[Word::new("CALL", Takes::One("CALL", calls), "the calls that are measured").or("all").many()],
     needed: 0,
     options: &[
@@ -40,7 +40,7 @@ const COMMAND: Command = Command {
         Word::new("--table", Takes::Text("CSV"), "measures nothing: takes the rows of the file CSV"),
     ],
     more: "Times are in nanoseconds per pixel of the plane (per cell, for distances and empty; per record, for \
-           parcel_sizes).",
+           parcel_sizes; per call, for walk_start and walk_due). Whole walks are not measured at 4096x4096.",
 };
 
 /// The sizes, as `--size` takes them.
@@ -205,7 +205,11 @@ mod measured {
             line(&csv::shown(&fields));
             keep(csv::line(&fields));
         };
-        rows.inspect(row).collect()
+        let rows: Vec<R> = rows.inspect(row).collect();
+        if rows.is_empty() {
+            COMMAND.refuse("whole walks are not measured at 4096x4096, and so not their growth");
+        }
+        rows
     }
 
     /// How many rounds there are of a row.
@@ -230,7 +234,6 @@ mod measured {
             let small = !asked.has("--quick") || width < 4096;
             small && one.map_or(true, |size| size == sized((width, height)))
         };
-        let sizes: Vec<_> = SIZES.into_iter().filter(wanted).collect();
         let row =
             |workload: &'static Workload, (width, height, most): (usize, usize, usize)| match asked
                 .number("--rounds")
@@ -238,15 +241,16 @@ mod measured {
                 Some(rounds) => measured(workload, (width, height), rounds, Duration::MAX),
                 None => measured(workload, (width, height), most, ENOUGH),
             };
-        let rows = workloads(asked).into_iter();
-        made(
-            asked,
-            rows.flat_map(|workload| sizes.iter().map(move |&size| row(workload, size))),
-        )
+        let rows = workloads(asked).into_iter().flat_map(|workload| {
+            let sizes = workload.sizes().iter().filter(|size| wanted(size));
+            sizes.map(move |&size| row(workload, size))
+        });
+        made(asked, rows)
     }
 
     pub fn growth(asked: &Asked) -> Vec<Growth> {
-        made(asked, workloads(asked).into_iter().map(grown))
+        let workloads = workloads(asked).into_iter();
+        made(asked, workloads.filter(|it| it.grows()).map(grown))
     }
 
     #[cfg(not(before))]
@@ -290,12 +294,18 @@ mod measured {
             None => USUAL.contains(&(width, height)),
         };
         let sizes: Vec<_> = SIZES.into_iter().filter(wanted).collect();
-        let row = |workload, (width, height, rounds)| {
+        let row = |workload: &'static Workload, (width, height, rounds)| {
+            let rounds = workload.rounds(rounds);
             let rounds = asked.number("--rounds").unwrap_or(rounds);
             compare(workload, (width, height), rounds)
         };
-        let rows = in_both(asked).into_iter();
-        let rows = rows.flat_map(|workload| sizes.iter().map(move |&size| row(workload, size)));
+        let rows = in_both(asked).into_iter().flat_map(|workload| {
+            let largest = workload.sizes().iter().map(|(width, _, _)| *width).max();
+            let sizes = sizes
+                .iter()
+                .filter(move |(width, _, _)| Some(*width) <= largest);
+            sizes.map(move |&size| row(workload, size))
+        });
         let rows: Vec<Compared> = made(asked, rows);
         line("");
         worst(&rows).iter().for_each(|words| line(words));

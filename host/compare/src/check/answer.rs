@@ -1,6 +1,6 @@
 //! What a call answers: a word, or a struct that has the word and some figures.
 
-use safeteal::ffi::Sizes;
+use safeteal::ffi::{Sizes, Walk, Walked};
 
 pub trait Answer: Copy + PartialEq {
     /// The answer of a refusal, "all 0 when refused".
@@ -51,6 +51,38 @@ impl Answer for Sizes {
     }
 }
 
+impl Answer for Walked {
+    fn refused(number: u64) -> Self {
+        Self {
+            word: number,
+            walk: Walk {
+                width: 0,
+                height: 0,
+                ratio: 0,
+                pairs: 0,
+                added: 0,
+                taken: 0,
+            },
+        }
+    }
+
+    fn word(self) -> u64 {
+        self.word
+    }
+
+    fn fields(self) -> Vec<(&'static str, u64)> {
+        vec![
+            ("word", self.word),
+            ("walk.width", self.walk.width as u64),
+            ("walk.height", self.walk.height as u64),
+            ("walk.ratio", self.walk.ratio as u64),
+            ("walk.pairs", self.walk.pairs as u64),
+            ("walk.added", self.walk.added as u64),
+            ("walk.taken", self.walk.taken as u64),
+        ]
+    }
+}
+
 /// The first number of the answer that is not as it should be, in words.
 pub fn unlike<A: Answer>(ours: A, right: A) -> Option<String> {
     if ours.word() != right.word() {
@@ -68,7 +100,7 @@ fn said(word: u64) -> String {
 
 #[cfg(test)]
 mod tests {
-    use super::{unlike, Answer, Sizes};
+    use super::{unlike, Answer, Sizes, Walk, Walked};
 
     #[test]
     fn what_differs_is_named() {
@@ -91,6 +123,20 @@ mod tests {
         assert!(
             words.starts_with("the answer is 9 (number 9, count 0)"),
             "{words}"
+        );
+    }
+
+    #[test]
+    fn a_number_of_a_walk_is_named() {
+        let right = Walked::refused(0);
+        let walk = Walk {
+            taken: 2,
+            ..right.walk
+        };
+        let words = unlike(Walked { walk, ..right }, right);
+        assert_eq!(
+            words.as_deref(),
+            Some("the answer's walk.taken is 2, not 0")
         );
     }
 }

@@ -56,6 +56,11 @@ pub trait Case: Lent + Clone + 'static {
         (self.theirs(), Entries::default())
     }
 
+    /// The answer of a refusal of this input.
+    fn refused(&self, number: u64) -> Self::Answer {
+        Self::Answer::refused(number)
+    }
+
     /// The arguments that are free after this answer.
     fn free(_answer: u64) -> &'static [&'static str] {
         &[]
@@ -63,9 +68,17 @@ pub trait Case: Lent + Clone + 'static {
 
     /// Leaves what is right, and gives the right answer, whose number is one of the call's; with the chroma entries.
     fn expected(&mut self) -> (Self::Answer, Entries) {
+        self.expected_of(Self::tallied)
+    }
+
+    /// The same, where what an accepted input is left with comes from elsewhere.
+    fn expected_of(
+        &mut self,
+        accepted: impl FnOnce(&mut Self) -> (Self::Answer, Entries),
+    ) -> (Self::Answer, Entries) {
         let (answer, entries) = match self.refusal() {
-            0 => self.tallied(),
-            number => (Self::Answer::refused(number), Entries::default()),
+            0 => accepted(self),
+            number => (self.refused(number), Entries::default()),
         };
         Self::known(answer);
         (answer, entries)
@@ -109,16 +122,43 @@ pub struct Compared {
 
 /// Runs both sides on copies of the input.
 pub fn compare<C: Case>(case: &C) -> Compared {
-    let (mut ours, mut right) = (case.clone(), case.clone());
-    let our_answer = ours.ours();
-    let (right_answer, entries) = right.expected();
-    let answer = right_answer.word();
-    let difference =
-        unlike(our_answer, right_answer).or_else(|| difference(&mut ours, &mut right, answer));
+    let mut both = Both::of(case, C::tallied);
     Compared {
-        answer,
-        entries,
-        difference,
+        answer: both.answer.word(),
+        entries: both.entries,
+        difference: both.difference(),
+    }
+}
+
+/// Both sides after a call on copies of one input.
+pub struct Both<C: Case> {
+    pub ours: C,
+    our_answer: C::Answer,
+    pub right: C,
+    /// The right one.
+    pub answer: C::Answer,
+    pub entries: Entries,
+}
+
+impl<C: Case> Both<C> {
+    /// `accepted` leaves what is right in an accepted input, and gives the right answer with the chroma entries.
+    pub fn of(case: &C, accepted: impl FnOnce(&mut C) -> (C::Answer, Entries)) -> Self {
+        let (mut ours, mut right) = (case.clone(), case.clone());
+        let our_answer = ours.ours();
+        let (answer, entries) = right.expected_of(accepted);
+        Self {
+            ours,
+            our_answer,
+            right,
+            answer,
+            entries,
+        }
+    }
+
+    /// Where they differ, in words.
+    pub fn difference(&mut self) -> Option<String> {
+        let slices = || difference(&mut self.ours, &mut self.right, self.answer.word());
+        unlike(self.our_answer, self.answer).or_else(slices)
     }
 }
 

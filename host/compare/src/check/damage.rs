@@ -17,7 +17,8 @@ pub fn input<C: Case>(rng: &mut Rng) -> C {
     case
 }
 
-fn fault<C: Case>(case: &mut C, rng: &mut Rng) {
+/// Puts a fault into one of the arguments; some are none.
+pub fn fault<C: Case>(case: &mut C, rng: &mut Rng) {
     let mut list = arguments(case);
     let at = rng.below(list.len());
     match &mut list[at].value {

@@ -1,7 +1,9 @@
 //! The rows of the refusal table, in whole numbers that do not wrap. Each call puts its rows together in order.
 
+use super::inputs::Sizes;
+
 /// The numbers that calls answer are below this.
-pub const NUMBERS: usize = 12;
+pub const NUMBERS: usize = 13;
 
 /// What a slice must have.
 #[derive(Clone, Copy, Debug)]
@@ -92,6 +94,12 @@ pub fn layer_numbers(pitch: usize, rows: usize, bytes_each: usize) -> Length {
 /// Exactly so many elements for each of `width` times `height`.
 pub fn exactly(each: usize, width: usize, height: usize) -> Length {
     Length::Exactly(times(times(each as u128, width), height))
+}
+
+/// A part's three slices: "six f32 sums per luma pixel", "two per chroma pixel in a slice for each chroma plane".
+pub fn sums_numbers((width, height, ratio): Sizes) -> [Length; 3] {
+    let chroma = exactly(2, over(width, ratio), over(height, ratio));
+    [exactly(6, width, height), chroma, chroma]
 }
 
 /// "width/8 times height/8 bytes, each quotient rounded up".

@@ -1,7 +1,9 @@
 use super::case::Case;
 use super::casts;
-use super::expected::{cover_bytes, exactly, over, wrong_ratio, wrong_setting, wrong_size, Length};
-use super::inputs::{bytes, sizes};
+use super::expected::{
+    cover_bytes, exactly, over, sums_numbers, wrong_ratio, wrong_setting, wrong_size, Length,
+};
+use super::inputs::{bytes, sizes, Sizes};
 use super::motion::Motion;
 use super::rng::Rng;
 use super::totals::{settle, Entries, Summed};
@@ -39,6 +41,16 @@ lent! {
 }
 
 impl Part {
+    /// No slices, which nobody may look at.
+    pub fn none() -> Self {
+        Self {
+            luma: Vec::new(),
+            chroma1: Vec::new(),
+            chroma2: Vec::new(),
+            pairs: 0,
+        }
+    }
+
     /// Slices of any length that nobody may look at.
     fn absent(rng: &mut Rng) -> Self {
         let mut any = || {
@@ -61,6 +73,17 @@ impl Part {
         }
     }
 
+    /// A part with these sums of the Rust.
+    pub fn summed(sums: &rust::Stats, pairs: usize) -> Self {
+        let [chroma1, chroma2] = sums.chroma();
+        Self {
+            luma: sums.luma().as_flattened().to_vec(),
+            chroma1: chroma1.as_flattened().to_vec(),
+            chroma2: chroma2.as_flattened().to_vec(),
+            pairs,
+        }
+    }
+
     /// The Rust's sums of this part; none where the part is absent.
     fn rust(&self) -> Option<rust::Stats> {
         let chroma = |sums: &[f32]| sums.chunks_exact(2).map(|s| [s[0], s[1]]).collect();
@@ -78,26 +101,38 @@ impl Part {
 impl Fit {
     /// A good input of a width, a height and a ratio, with sums of one of the kinds.
     pub fn of_kind(rng: &mut Rng, size: Sizes, kind: usize) -> Self {
-        let (width, height, ratio) = size;
-        let [previous, own, next] = parts(rng, size, kind);
+        let parts = parts(rng, size, kind);
+        Self::of_parts(rng, size, kind, parts)
+    }
+
+    /// The same with parts of so many pairs each; of none, where a neighbour is absent.
+    pub fn of_pairs(rng: &mut Rng, size: Sizes, kind: usize, pairs: [usize; 3]) -> Self {
+        let scene = Scene::random(rng, size);
+        let parts = pairs.map(|pairs| match pairs {
+            0 => Part::none(),
+            _ => Part {
+                pairs,
+                ..scene.of_kind(rng, size, kind, pairs)
+            },
+        });
+        Self::of_parts(rng, size, kind, parts)
+    }
+
+    /// The same with these parts.
+    fn of_parts(rng: &mut Rng, size: Sizes, kind: usize, parts: [Part; 3]) -> Self {
+        let ((width, height, ratio), [previous, own, next]) = (size, parts);
         let half = 2 * (width / ratio) * (height / ratio);
         let garbage = rng.bits() as i16;
+        let settings = settings(rng);
         let mut made = Self {
             previous,
             own,
             next,
             width,
             height,
-            limit: match rng.below(4) {
-                0 => rng.pick(&[0.5, 0.5, 0.75, 255.0, 0.50000006, 1.0, 12.0, 100.0]),
-                1 => 0.5 + rng.unit() * 30.0,
-                _ => 6.0,
-            },
-            evidence: match rng.below(3) {
-                0 => rng.pick(&[0.0, -0.0, 1e-45, 24.0, 72.0, 65_536.0, 0.5]),
-                _ => rng.below(8) as f32,
-            },
-            strict: rng.once_in(3),
+            limit: settings.limit,
+            evidence: settings.evidence,
+            strict: settings.strict,
             ratio,
             models: (0..4 * width * height).map(|_| rng.any_float()).collect(),
             kept: rng.bytes(width * height),
@@ -185,12 +220,7 @@ impl Case for Fit {
 
     fn lengths(&self) -> Vec<Length> {
         let (width, height) = (self.width, self.height);
-        let (half, rows) = (over(width, self.ratio), over(height, self.ratio));
-        let sums = [
-            exactly(6, width, height),
-            exactly(2, half, rows),
-            exactly(2, half, rows),
-        ];
+        let sums = sums_numbers((width, height, self.ratio));
         let neighbour = |part: &Part| {
             if part.pairs == 0 {
                 [Length::Any; 3]
@@ -198,18 +228,9 @@ impl Case for Fit {
                 sums
             }
         };
-        let mut lengths = Vec::with_capacity(15);
-        lengths.extend(neighbour(&self.previous));
-        lengths.extend(sums);
-        lengths.extend(neighbour(&self.next));
-        lengths.extend([exactly(4, width, height), exactly(1, width, height)]);
-        lengths.push(cover_bytes(width, height));
-        lengths.extend([
-            exactly(2, width, height),
-            exactly(2, half, rows),
-            exactly(2, half, rows),
-        ]);
-        lengths
+        let (previous, next) = (neighbour(&self.previous), neighbour(&self.next));
+        let made = made_numbers((width, height, self.ratio));
+        [&previous[..], &sums, &next, &made].concat()
     }
 
     fn ours(&mut self) -> u64 {
@@ -226,9 +247,7 @@ impl Case for Fit {
             2
         } else if self.misfits() {
             4
-        } else if wrong_setting(self.limit, 0.5, 255.0)
-            || wrong_setting(self.evidence, 0.0, 65_536.0)
-        {
+        } else if wrong_settings(self.limit, self.evidence) {
             6
         } else if pairs.into_iter().any(|pairs| pairs > 12) || self.own.pairs == 0 {
             7
@@ -298,7 +317,39 @@ fn all(sums: &[Option<rust::Stats>; 3]) -> [Option<&rust::Stats>; 3] {
     sums.each_ref().map(Option::as_ref)
 }
 
-type Sizes = (usize, usize, usize);
+/// Row 4: work slices and outputs.
+pub fn made_numbers((width, height, ratio): Sizes) -> [Length; 6] {
+    let chroma = exactly(2, over(width, ratio), over(height, ratio));
+    [
+        exactly(4, width, height),
+        exactly(1, width, height),
+        cover_bytes(width, height),
+        exactly(2, width, height),
+        chroma,
+        chroma,
+    ]
+}
+
+/// Row 6: "fit's limit 0.5 to 255", and the evidence figure "0 to 65,536".
+pub fn wrong_settings(limit: f32, evidence: f32) -> bool {
+    wrong_setting(limit, 0.5, 255.0) || wrong_setting(evidence, 0.0, 65_536.0)
+}
+
+/// Settings inside their ranges, at the ends as well.
+pub fn settings(rng: &mut Rng) -> Settings {
+    Settings {
+        limit: match rng.below(4) {
+            0 => rng.pick(&[0.5, 0.5, 0.75, 255.0, 0.50000006, 1.0, 12.0, 100.0]),
+            1 => 0.5 + rng.unit() * 30.0,
+            _ => 6.0,
+        },
+        evidence: match rng.below(3) {
+            0 => rng.pick(&[0.0, -0.0, 1e-45, 24.0, 72.0, 65_536.0, 0.5]),
+            _ => rng.below(8) as f32,
+        },
+        strict: rng.once_in(3),
+    }
+}
 
 /// Sums are of any floats (0), gathered by the Rust (1), of a scene with a few sums spoilt (2) or with strong casts (3
 /// and 4), or of a scene.
@@ -313,15 +364,7 @@ fn parts(rng: &mut Rng, size: Sizes, kind: usize) -> [Part; 3] {
             return Part::absent(rng);
         }
         let pairs = rng.pick(&[1, 1, 2, 3, 5, 12]);
-        let mut part = match kind {
-            0 => any_part(rng, size, pairs),
-            1 => gathered(rng, size, pairs.min(2)),
-            _ => scene.part(rng, size, pairs),
-        };
-        if kind == 2 {
-            spoil(rng, &mut part);
-        }
-        part
+        scene.of_kind(rng, size, kind, pairs)
     })
 }
 
@@ -335,26 +378,26 @@ struct Scene {
 }
 
 impl Scene {
-    /// Patches, lines and single dots, of one kind of lettering or of another at each pixel.
-    fn random(rng: &mut Rng, (width, height, _): Sizes) -> Self {
-        let mut lettering = vec![(1.0, 0.0); width * height];
-        for _ in 0..1 + rng.below(3 + width * height / 1024) {
-            let (model, mixed) = (letter(rng), rng.once_in(4));
-            let (left, top) = (rng.below(width), rng.below(height));
-            let (wide, high) = (1 + rng.below(6), 1 + rng.below(6));
-            for y in top..(top + high).min(height) {
-                let right = (left + wide).min(width);
-                for pixel in &mut lettering[y * width + left..y * width + right] {
-                    *pixel = if mixed { letter(rng) } else { model };
-                }
-            }
-        }
+    fn random(rng: &mut Rng, size: Sizes) -> Self {
         Self {
-            lettering,
+            lettering: lettering(rng, size),
             noise: rng.pick(&[0.0, 0.5, 2.0, 8.0]),
             cast: rng.pick(&[0.0, 0.0, 5.0, 300.0, 2000.0]),
             scale: rng.pick(&[1.0, 1.0, 1.0, 37.0, 1000.0]),
         }
+    }
+
+    /// A part of one of the kinds.
+    fn of_kind(&self, rng: &mut Rng, size: Sizes, kind: usize, pairs: usize) -> Part {
+        let mut part = match kind {
+            0 => any_part(rng, size, pairs),
+            1 => gathered(rng, size, pairs.min(2)),
+            _ => self.part(rng, size, pairs),
+        };
+        if kind == 2 {
+            spoil(rng, &mut part);
+        }
+        part
     }
 
     /// Sums as pairs would make them: of what the scene shows (p) and what the frame has there (i).
@@ -399,6 +442,23 @@ impl Scene {
     }
 }
 
+/// Patches, lines and single dots, of one kind of lettering or of another at each pixel.
+pub fn lettering(rng: &mut Rng, (width, height, _): Sizes) -> Vec<(f32, f32)> {
+    let mut lettering = vec![(1.0, 0.0); width * height];
+    for _ in 0..1 + rng.below(3 + width * height / 1024) {
+        let (model, mixed) = (letter(rng), rng.once_in(4));
+        let (left, top) = (rng.below(width), rng.below(height));
+        let (wide, high) = (1 + rng.below(6), 1 + rng.below(6));
+        for y in top..(top + high).min(height) {
+            let right = (left + wide).min(width);
+            for pixel in &mut lettering[y * width + left..y * width + right] {
+                *pixel = if mixed { letter(rng) } else { model };
+            }
+        }
+    }
+    lettering
+}
+
 /// Lettering of one kind: a gain and an offset.
 fn letter(rng: &mut Rng) -> (f32, f32) {
     if rng.once_in(4) {
@@ -411,7 +471,7 @@ fn letter(rng: &mut Rng) -> (f32, f32) {
 }
 
 /// Sums of any floats.
-fn any_part(rng: &mut Rng, (width, height, ratio): Sizes, pairs: usize) -> Part {
+pub fn any_part(rng: &mut Rng, (width, height, ratio): Sizes, pairs: usize) -> Part {
     let chroma = 2 * (width / ratio) * (height / ratio);
     let mut any = |length| (0..length).map(|_| rng.any_float()).collect();
     Part {
@@ -455,11 +515,5 @@ fn gathered(rng: &mut Rng, (width, height, ratio): Sizes, pairs: usize) -> Part 
             motion: motion.lent(Size::new(width, height)).into(),
         })
         .collect();
-    let sums = rust::stats(&list, (width, height), ratio);
-    Part {
-        luma: sums.luma().as_flattened().to_vec(),
-        chroma1: sums.chroma()[0].as_flattened().to_vec(),
-        chroma2: sums.chroma()[1].as_flattened().to_vec(),
-        pairs,
-    }
+    Part::summed(&rust::stats(&list, (width, height), ratio), pairs)
 }

@@ -2,8 +2,11 @@
 
 use super::rng::Rng;
 
+/// A width, a height and a ratio.
+pub type Sizes = (usize, usize, usize);
+
 /// A ratio and two sizes that it divides: mostly 1 to `most` pixels, some long and flat, few of 4096.
-pub fn sizes(rng: &mut Rng, most: usize) -> (usize, usize, usize) {
+pub fn sizes(rng: &mut Rng, most: usize) -> Sizes {
     let ratio = rng.pick(&[1, 2, 4]);
     let (width, height) = match rng.below(3000) {
         0 => (4096 / ratio, 1),
@@ -19,7 +22,7 @@ pub fn sizes(rng: &mut Rng, most: usize) -> (usize, usize, usize) {
 }
 
 /// A ratio and two sizes that span several cells one way and few pixels the other.
-pub fn flat_sizes(rng: &mut Rng) -> (usize, usize, usize) {
+pub fn flat_sizes(rng: &mut Rng) -> Sizes {
     let ratio = rng.pick(&[1, 2, 4]);
     let long = ratio * (1 + rng.below(56 / ratio));
     let short = ratio * (1 + rng.below(4 / ratio));

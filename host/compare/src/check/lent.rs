@@ -169,7 +169,7 @@ macro_rules! lent {
         [$($field:ident: $type:ty,)*] [$(($member:ident $called:expr))*]
     ) => {
         $($docs)*
-        #[derive(Clone)]
+        #[derive(Clone, PartialEq)]
         pub struct $name $(<$of: $bound>)? { $(pub $field: $type,)* }
 
         impl $(<$of: $bound>)? $crate::check::lent::Lent for $name $(<$of>)? {

@@ -1,4 +1,4 @@
-//! Motion lent to stats and render.
+//! Motion lent to stats, render and a walk's pair.
 
 use super::expected::{exactly, wrong_motion, Length};
 use super::rng::Rng;
@@ -55,6 +55,24 @@ impl Motion {
             origin_x: origin(rng),
             origin_y: origin(rng),
             pel,
+        }
+    }
+
+    /// The same motion everywhere: what the second frame shows is so many pixels farther right and down in the first.
+    pub fn pan((right, down): (i16, i16)) -> Self {
+        let field = |pixels: i16| vec![1024u16.wrapping_add_signed(pixels)];
+        Self {
+            forward_x: field(-right),
+            forward_y: field(-down),
+            backward_x: field(right),
+            backward_y: field(down),
+            grid_width: 1,
+            grid_height: 1,
+            block_width: 16,
+            block_height: 16,
+            origin_x: 0,
+            origin_y: 0,
+            pel: 1,
         }
     }
 

@@ -1,4 +1,4 @@
-//! Runs many cases of one call: with a seed, with progress, with a failing input made small.
+//! Runs many cases of one call, or many whole walks: with a seed, with progress, with a failing input made small.
 
 use std::panic::{catch_unwind, AssertUnwindSafe};
 use std::time::{Duration, Instant, SystemTime, UNIX_EPOCH};
@@ -13,7 +13,9 @@ use super::show;
 use super::shrink::shrink;
 use super::stored;
 use super::totals::Entries;
+use super::walks::{self, Walks};
 use super::CALLS;
+use crate::names::WALKS;
 use words::note;
 
 /// How many cases a call gets at least, unless `SAFETEAL_CASES` says otherwise.
@@ -39,13 +41,14 @@ impl Until {
     }
 }
 
-/// What a run did: cases by the number of their answer, chroma entries by what they were compared with, and the time
-/// it took.
+/// What a run did: cases by the number of their answer, chroma entries by what they were compared with, the walks whose
+/// calls the cases were, and the time it took.
 #[derive(Clone, Default)]
 pub struct Tally {
     pub by_number: [u64; NUMBERS],
     pub counted: u64,
     pub entries: Entries,
+    pub walks: Walks,
     pub time: Duration,
 }
 
@@ -65,29 +68,41 @@ impl Tally {
         }
         self.counted += other.counted;
         self.entries.add(other.entries);
+        self.walks.add(&other.walks);
         self.time += other.time;
     }
 
-    fn note(&mut self, answer: u64, entries: Entries) {
+    pub fn note(&mut self, answer: u64, entries: Entries) {
         self.by_number[(answer % 256) as usize] += 1;
         self.counted += answer / 256;
         self.entries.add(entries);
     }
 
-    /// One line: cases, rate, how many answers had each number, and the chroma entries where there are any.
+    /// One line: cases, rate, how many answers had each number, and the chroma entries and walks where there are any.
     pub fn line(&self) -> String {
-        let numbers: Vec<String> = (0..NUMBERS)
-            .filter(|&number| self.by_number[number] > 0)
-            .map(|number| format!("{number}: {}", self.by_number[number]))
-            .collect();
+        let below = self.words().into_iter().map(|words| format!("; {words}"));
         format!(
             "{} cases, {:.0} a second ({}){}",
             self.cases(),
             self.rate(),
-            numbers.join(", "),
-            self.entries.tail()
+            by_number(&self.by_number),
+            below.collect::<String>()
         )
     }
+
+    /// What there is to say of chroma entries and of walks.
+    pub fn words(&self) -> Vec<String> {
+        let words = [self.entries.words(), self.walks.words()];
+        words.into_iter().flatten().collect()
+    }
+}
+
+/// How many answers had each number, in words.
+pub fn by_number(answers: &[u64; NUMBERS]) -> String {
+    let numbers = answers.iter().enumerate();
+    let met = numbers.filter(|(_, &answers)| answers > 0);
+    let met = met.map(|(number, answers)| format!("{number}: {answers}"));
+    met.collect::<Vec<_>>().join(", ")
 }
 
 /// A call that can be compared, whatever the type of its inputs.
@@ -110,6 +125,17 @@ impl Call {
             numbers: C::NUMBERS,
             run: run::<C>,
             alone: alone::<C>,
+            stored: None,
+        }
+    }
+
+    /// Whole walks, whose calls are the cases.
+    pub const fn walks() -> Self {
+        Self {
+            name: WALKS,
+            numbers: walks::NUMBERS,
+            run: walks::run,
+            alone: walks::alone,
             stored: None,
         }
     }
@@ -155,36 +181,43 @@ impl Call {
 }
 
 fn run<C: Case>(seed: u64, until: Until) -> Result<Tally, String> {
+    each(C::NAME, seed, until, |rng, tally| {
+        let (answer, entries) = judged(&input::<C>(rng))?;
+        tally.note(answer, entries);
+        Ok(())
+    })
+}
+
+/// Runs one input after another until the end, each made of random numbers of its own; `one` notes its cases.
+pub fn each(
+    name: &str,
+    seed: u64,
+    until: Until,
+    one: impl Fn(&mut Rng, &mut Tally) -> Result<(), String>,
+) -> Result<Tally, String> {
     let trace = std::env::var_os("SAFETEAL_TRACE").is_some();
     let start = Instant::now();
     let (mut tally, mut shown) = (Tally::default(), start);
     for index in 0.. {
-        let now = Instant::now();
+        let (now, cases) = (Instant::now(), tally.cases());
         tally.time = now - start;
-        if until.over(index, tally.time) {
+        if until.over(cases, tally.time) {
             break;
         }
         if now - shown >= SHOWN {
             shown = now;
-            note(&format!("  {}, seed {seed}: {}", C::NAME, tally.line()));
+            note(&format!("  {name}, seed {seed}: {}", tally.line()));
         }
         if trace {
-            note(&format!("  {}, seed {seed}, case {index}", C::NAME));
+            note(&format!("  {name}, seed {seed}, input {index}"));
         }
-        let case = input::<C>(&mut Rng::of(seed, C::NAME, index));
         let place = |words: String| {
-            let again = format!(
-                "SAFETEAL_SEED={seed} SAFETEAL_CASES={} SAFETEAL_CALLS={}",
-                index + 1,
-                C::NAME
-            );
-            format!(
-                "{}, seed {seed}, case {index} ({again} runs it again):\n{words}",
-                C::NAME
-            )
+            let cases = cases + 1;
+            let again =
+                format!("SAFETEAL_SEED={seed} SAFETEAL_CASES={cases} SAFETEAL_CALLS={name}");
+            format!("{name}, seed {seed}, input {index} ({again} runs it again):\n{words}")
         };
-        let (answer, entries) = judged(&case).map_err(place)?;
-        tally.note(answer, entries);
+        one(&mut Rng::of(seed, name, index), &mut tally).map_err(place)?;
     }
     Ok(tally)
 }

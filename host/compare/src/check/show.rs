@@ -6,10 +6,18 @@ use super::answer::Answer;
 use super::case::Case;
 use super::lent::{arguments, Argument, Value};
 
+/// The group that passes as one struct by value; where a call takes it, it stands first.
+const WALK: &str = "walk";
+
 /// The text of a test that makes the call on this input and asks for the right answer and the right slices.
 pub fn test<C: Case>(case: &C) -> String {
     let mut after = case.clone();
     let (answer, _) = after.expected();
+    asked(case, after, answer)
+}
+
+/// The same, where what is right is known.
+pub fn asked<C: Case>(case: &C, mut after: C, answer: C::Answer) -> String {
     let free = C::free(answer.word());
     let mut text = call(case) + &answered(answer);
     let compared = |argument: &Argument| {
@@ -51,10 +59,12 @@ fn assertion(argument: &Argument, any_nan: bool) -> String {
 /// The test's text up to the call.
 pub fn call<C: Case>(case: &C) -> String {
     let mut text = format!("#[test]\nfn {}_case() {{\n", C::NAME);
-    let mut call = String::new();
+    let (mut call, mut fields) = (String::new(), Vec::new());
     for argument in arguments(&mut case.clone()) {
         let (name, value) = (argument.full_name(), value(&argument));
-        if C::WRITTEN.contains(&name.as_str()) {
+        if argument.owner == WALK {
+            fields.push(format!("{}: {value}", argument.name));
+        } else if C::WRITTEN.contains(&name.as_str()) {
             let _ = writeln!(text, "    let mut {name} = {value};");
             let _ = writeln!(call, "        &mut {name},");
         } else if argument.is_slice() {
@@ -62,6 +72,10 @@ pub fn call<C: Case>(case: &C) -> String {
         } else {
             let _ = writeln!(call, "        {value}, // {name}");
         }
+    }
+    if !fields.is_empty() {
+        let fields = fields.join(", ");
+        call = format!("        safeteal::ffi::Walk {{ {fields} }},\n{call}");
     }
     let _ = writeln!(
         text,

@@ -6,7 +6,7 @@ use super::case::{compare, Case};
 use super::lent::{arguments, Value};
 
 /// How long a failing input is worked on.
-const PATIENCE: Duration = Duration::from_secs(20);
+pub const PATIENCE: Duration = Duration::from_secs(20);
 /// Slices above this length are only made shorter or zero as a whole and by halves.
 const FEW: usize = 400;
 /// Slices above this length are not made for a shrunk input.

@@ -1,18 +1,11 @@
 use super::case::Case;
-use super::expected::{exactly, over, plane_bytes, wrong_pitch, wrong_ratio, wrong_size, Length};
-use super::inputs::{near, pitch, plane, sizes};
+use super::expected::{sums_numbers, wrong_ratio, wrong_size, Length};
+use super::inputs::{sizes, Sizes};
 use super::motion::Motion;
+use super::planes::Planes;
 use super::rng::Rng;
 use crate::oracle::layer as rust;
 use safeteal::{groups, Pair, Size};
-
-lent! {
-    /// A byte plane with its pitch.
-    pub struct Plane {
-        data: Vec<u8>,
-        pitch: usize,
-    }
-}
 
 lent! {
     pub struct Stats {
@@ -23,66 +16,19 @@ lent! {
         width: usize,
         height: usize,
         ratio: usize,
-        first0: Plane,
-        first1: Plane,
-        first2: Plane,
-        second0: Plane,
-        second1: Plane,
-        second2: Plane,
+        [planes]: Planes,
         [motion]: Motion,
     }
 }
 
-impl Plane {
-    fn random(rng: &mut Rng, (row, rows): (usize, usize)) -> Self {
-        let pitch = pitch(rng, row, rows);
-        Self {
-            data: plane(rng, pitch, row, rows),
-            pitch,
-        }
-    }
-
-    /// A plane like that one, of the same pitch.
-    fn near(rng: &mut Rng, other: &Plane) -> Self {
-        Self {
-            data: near(rng, &other.data, other.data.len()),
-            pitch: other.pitch,
-        }
-    }
-
-    fn lent(&self, size: Size) -> safeteal::Plane<'_> {
-        safeteal::Plane::pitched(&self.data, size, self.pitch)
-    }
-}
-
 impl Stats {
-    /// Each plane with the sizes it must have.
-    fn planes(&self) -> [(&Plane, usize, usize); 6] {
-        let (width, height) = (self.width, self.height);
-        let (half, rows) = (over(width, self.ratio), over(height, self.ratio));
-        [
-            (&self.first0, width, height),
-            (&self.first1, half, rows),
-            (&self.first2, half, rows),
-            (&self.second0, width, height),
-            (&self.second1, half, rows),
-            (&self.second2, half, rows),
-        ]
+    fn sizes(&self) -> Sizes {
+        (self.width, self.height, self.ratio)
     }
 
     /// The sums (of luma and of chroma) and the pair.
-    pub fn lent<'a>(&'a mut self) -> (&'a mut [f32], [&'a mut [f32]; 2], Pair<'a>) {
-        let luma = Size::new(self.width, self.height);
-        let chroma = Size::new(over(self.width, self.ratio), over(self.height, self.ratio));
-        let planes = |first: [&'a Plane; 3]| {
-            let [a, b, c] = first;
-            [a.lent(luma), b.lent(chroma), c.lent(chroma)]
-        };
-        let pair = Pair {
-            first: planes([&self.first0, &self.first1, &self.first2]),
-            second: planes([&self.second0, &self.second1, &self.second2]),
-            motion: self.motion.lent(luma),
-        };
+    pub fn lent(&mut self) -> (&mut [f32], [&mut [f32]; 2], Pair<'_>) {
+        let pair = self.planes.pair(&self.motion, self.sizes());
         let chroma: [&mut [f32]; 2] = [&mut self.chroma1, &mut self.chroma2];
         (&mut self.luma, chroma, pair)
     }
@@ -98,17 +44,10 @@ impl Case for Stats {
 
     fn random(rng: &mut Rng) -> Self {
         let (width, height, ratio) = sizes(rng, 12);
-        let half = (width / ratio, height / ratio);
-        let first0 = Plane::random(rng, (width, height));
-        let (first1, first2) = (Plane::random(rng, half), Plane::random(rng, half));
-        let [second0, second1, second2] = if rng.once_in(2) {
-            [&first0, &first1, &first2].map(|first| Plane::near(rng, first))
-        } else {
-            [(width, height), half, half].map(|size| Plane::random(rng, size))
-        };
+        let planes = Planes::random(rng, (width, height, ratio));
         let pairs = rng.pick(&[0, 0, 1, 2, 3, 7, 10, 11]);
         let before = sums_of_kind(rng, pairs);
-        let chroma = 2 * half.0 * half.1;
+        let chroma = 2 * (width / ratio) * (height / ratio);
         Self {
             luma: (0..6 * width * height).map(|_| before(rng)).collect(),
             chroma1: (0..chroma).map(|_| before(rng)).collect(),
@@ -117,12 +56,7 @@ impl Case for Stats {
             width,
             height,
             ratio,
-            first0,
-            first1,
-            first2,
-            second0,
-            second1,
-            second2,
+            planes,
             motion: Motion::random(rng),
         }
     }
@@ -132,16 +66,11 @@ impl Case for Stats {
     }
 
     fn lengths(&self) -> Vec<Length> {
-        let chroma = exactly(
-            2,
-            over(self.width, self.ratio),
-            over(self.height, self.ratio),
+        let (sums, planes) = (
+            sums_numbers(self.sizes()),
+            self.planes.lengths(self.sizes()),
         );
-        let mut lengths = vec![exactly(6, self.width, self.height), chroma, chroma];
-        let planes = self.planes();
-        lengths.extend(planes.map(|(plane, row, rows)| plane_bytes(plane.pitch, row, rows)));
-        lengths.extend(self.motion.lengths());
-        lengths
+        [&sums[..], &planes, &self.motion.lengths()].concat()
     }
 
     fn ours(&mut self) -> u64 {
@@ -156,11 +85,7 @@ impl Case for Stats {
             1
         } else if wrong_ratio(self.ratio, self.width, self.height) {
             2
-        } else if self
-            .planes()
-            .iter()
-            .any(|(plane, row, _)| wrong_pitch(plane.pitch, *row))
-        {
+        } else if self.planes.wrong_pitches(self.sizes()) {
             3
         } else if self.misfits() {
             4
@@ -191,7 +116,7 @@ impl Case for Stats {
 }
 
 /// Sums that stood there before: whole numbers as pairs make them, or any floats.
-fn sums_of_kind(rng: &mut Rng, pairs: usize) -> impl Fn(&mut Rng) -> f32 {
+pub fn sums_of_kind(rng: &mut Rng, pairs: usize) -> impl Fn(&mut Rng) -> f32 {
     let any = rng.once_in(3);
     move |rng| {
         if any {
@@ -213,23 +138,15 @@ mod tests {
             let mut rng = Rng::of(5, "pairs", index);
             let mut first = Stats::random(&mut rng);
             let (size, ratio) = ((first.width, first.height), first.ratio);
-            let (_, _, pair) = first.lent();
-            let turned = Pair {
-                first: pair.second,
-                second: pair.first,
-                ..pair
-            };
-            let both = rust::stats(&[pair.into(), turned.into()], size, ratio);
+            let turned = first.planes.clone().turned();
+            let pairs = [&first.planes, &turned]
+                .map(|planes| rust::Pair::from(planes.pair(&first.motion, first.sizes())));
+            let both = rust::stats(&pairs, size, ratio);
 
             first.pairs = 0;
             first.theirs();
             let mut second = Stats {
-                first0: first.second0.clone(),
-                first1: first.second1.clone(),
-                first2: first.second2.clone(),
-                second0: first.first0.clone(),
-                second1: first.first1.clone(),
-                second2: first.first2.clone(),
+                planes: turned,
                 pairs: 1,
                 ..first
             };

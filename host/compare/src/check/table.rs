@@ -1,4 +1,5 @@
-//! What a long run did, as a Markdown table: a row for each call and one for all, and below it the chroma entries.
+//! What a long run did, as a Markdown table: a row for each call and one for all, and below it the chroma entries and
+//! the walks.
 
 use super::run::Tally;
 
@@ -14,8 +15,8 @@ pub fn table<'a>(rows: impl Iterator<Item = (&'a str, &'a Tally)>) -> String {
     for (call, tally) in rows {
         all.add(tally);
         made += &row(call, tally);
-        let entries = tally.entries.words().into_iter();
-        below.extend(entries.map(|words| format!("\n{call}: {words}\n")));
+        let words = tally.words().into_iter();
+        below.extend(words.map(|words| format!("\n{call}: {words}\n")));
     }
     made + &row("all", &all) + &below
 }

@@ -9,16 +9,19 @@ pub enum Beside {
     Rust,
     /// A plain copy of as many bytes: the Rust has no such call.
     Copy,
+    /// Our own calls that do the same, made by hand.
+    Hand,
 }
 
 impl Beside {
-    pub const ALL: [Self; 2] = [Self::Rust, Self::Copy];
+    pub const ALL: [Self; 3] = [Self::Rust, Self::Copy, Self::Hand];
 
     /// As it stands in a row.
     pub fn name(self) -> &'static str {
         match self {
             Self::Rust => "the Rust",
             Self::Copy => "a copy",
+            Self::Hand => "by hand",
         }
     }
 
@@ -29,7 +32,7 @@ impl Beside {
     }
 }
 
-/// One workload of one call at one size, beside the Rust or a copy.
+/// One workload of one call at one size, and what stands beside it.
 #[derive(Clone, Debug, PartialEq)]
 pub struct Row {
     pub call: String,
@@ -43,7 +46,7 @@ pub struct Row {
     /// How wide the middle half of the rounds' ratios is, as a share of their median.
     pub spread: Option<f64>,
     pub rounds: usize,
-    /// What the times are divided by: the pixels of the plane, the cells or the records.
+    /// What the times are divided by: the pixels of the plane, the cells or the records; 1 where a call is the measure.
     pub pixels: usize,
 }
 
@@ -234,7 +237,7 @@ pub mod tests {
             ),
             (
                 "a,b,64x64,it,1.00,2.00,0.50,,1,1",
-                "line 2: \"it\" stands where \"the Rust\" or \"a copy\" must",
+                "line 2: \"it\" stands where \"the Rust\" or \"a copy\" or \"by hand\" must",
             ),
             (
                 "a,b,64x64,the Rust,-1,2.00,0.50,,1,1",

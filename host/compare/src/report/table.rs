@@ -18,6 +18,9 @@ pub const FRAMES: &[&[(&str, usize)]] = &[
     &[("three parts of twelve pairs", 1)],
     &[("a whole layer", 1)],
     &[("six records, per record", 1)],
+    &[("six numbers, per call", 1)],
+    &[("36 pairs, three layers", 1)],
+    &[("36 pairs, three layers, by hand", 1)],
 ];
 
 /// The rows of one call, together.
@@ -108,7 +111,7 @@ fn grouped<'a, R>(
     calls
 }
 
-/// The calls beside the Rust, or beside a copy, in the order in which the rows name them.
+/// The calls beside the Rust, or beside something else, in the order in which the rows name them.
 pub fn by_call(rows: &[Row], beside: Beside) -> Vec<Summary<'_>> {
     let rows = rows.iter().filter(|row| row.beside == beside);
     let calls = grouped(rows, |row| &row.call).into_iter();
@@ -117,36 +120,46 @@ pub fn by_call(rows: &[Row], beside: Beside) -> Vec<Summary<'_>> {
 
 /// The first two lines of a table.
 fn head(beside: Beside) -> String {
-    let other = match beside {
-        Beside::Rust => "Rust",
-        Beside::Copy => "copy",
+    let (other, column) = match beside {
+        Beside::Rust => ("Rust", "The Rust"),
+        Beside::Copy => ("copy", "The copy"),
+        Beside::Hand => ("by hand", "By hand"),
     };
     format!(
-        "| Call | Ours / {other}, median | Worst | The worst workload | Frame of 1920×1080, ours, ms | The {other}, ms \
+        "| Call | Ours / {other}, median | Worst | The worst workload | Frame of 1920×1080, ours, ms | {column}, ms \
          | Spread, middle row (widest) |\n|---|---|---|---|---|---|---|\n"
     )
 }
 
 const COPIES: &str = "\
-The Rust has no parcels. What stands beside these calls is no other way to do the same, but a plain copy of as many
-bytes (`copy_from_slice`), by turns and in the same run: of the whole parcel; for parcel_sizes of 42 bytes, the lengths
-and kinds of six records and the head.
+The Rust has no parcels and no walks. What stands beside these calls is no other way to do the same, but a plain copy of
+as many bytes (`copy_from_slice`), by turns and in the same run: of the whole parcel; for parcel_sizes of 42 bytes, the
+lengths and kinds of six records and the head; for walk_start and walk_due of 48 bytes, the six numbers of a walk.
+";
+
+const HANDS: &str = "\
+What a walk does, stats and fit do by hand: beside walk_pair stands a call of stats on the same pair, beside walk_layer
+a call of fit on the same sums, beside whole walks 36 calls of stats and three of fit, by turns and in the same run.
+Both sides work in the same slices, so that they wait for the memory alike, and the shortest round of each is taken,
+since they do the same work and differ by less than rounds do.
 ";
 
 /// A table of the calls beside the Rust, with a line for each call and one for all; then one of those beside a copy,
-/// which says so.
+/// and one of those beside our own by hand, which say so.
 pub fn calls(rows: &[Row]) -> String {
-    let [beside_rust, beside_copy] = Beside::ALL.map(|beside| by_call(rows, beside));
-    let lines = |calls: &[Summary]| calls.iter().map(Summary::line).collect::<String>();
-    let mut tables = Vec::new();
-    if !beside_rust.is_empty() {
-        let (head, lines) = (head(Beside::Rust), lines(&beside_rust));
-        tables.push(head + &lines + &line_for_all(&beside_rust));
-    }
-    if !beside_copy.is_empty() {
-        let (head, lines) = (head(Beside::Copy), lines(&beside_copy));
-        tables.push(format!("{COPIES}\n{head}{lines}"));
-    }
+    let table = |beside: Beside| {
+        let calls = by_call(rows, beside);
+        let lines = calls.iter().map(Summary::line).collect::<String>();
+        let table = head(beside) + &lines;
+        let table = match beside {
+            _ if calls.is_empty() => return None,
+            Beside::Rust => table + &line_for_all(&calls),
+            Beside::Copy => format!("{COPIES}\n{table}"),
+            Beside::Hand => format!("{HANDS}\n{table}"),
+        };
+        Some(table)
+    };
+    let tables: Vec<String> = Beside::ALL.into_iter().filter_map(table).collect();
     tables.join("\n")
 }
 
@@ -181,7 +194,7 @@ pub fn growths(rows: &[Growth]) -> String {
 
 #[cfg(test)]
 mod tests {
-    use super::{by_call, calls, growths, milliseconds, COPIES};
+    use super::{by_call, calls, growths, milliseconds, COPIES, HANDS};
     use crate::report::rows::tests::row;
     use crate::report::rows::{Beside, Growth, Row};
 
@@ -223,6 +236,20 @@ mod tests {
         assert!(lines[1].contains("| The copy, ms |"));
         let read = "| parcel_read | 3.00 | 3.00 | a whole layer, 1920×1080 | 6.22 | 2.07 | 2.0 % (2.0 %) |";
         assert_eq!(lines[3..], [read]);
+    }
+
+    /// So has what stands beside our own calls by hand.
+    #[test]
+    fn calls_by_hand_have_a_table_of_their_own() {
+        let mut hand = row("walk_layer", "a", (64, 64), 2.0, 2.0);
+        hand.beside = Beside::Hand;
+        let both = calls(&[rows(), vec![hand.clone()]].concat());
+        let alone = calls(&[hand]);
+        assert_eq!(both, format!("{}\n{alone}", calls(&rows())));
+        let lines: Vec<&str> = alone.trim_start_matches(HANDS).lines().collect();
+        assert!(lines[1].starts_with("| Call | Ours / by hand, median |"));
+        assert!(lines[1].contains("| By hand, ms |"));
+        assert!(lines[3].starts_with("| walk_layer | 1.00 | 1.00 | a, 64×64 | - | - |"));
     }
 
     #[test]

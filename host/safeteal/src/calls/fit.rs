@@ -1,5 +1,4 @@
 use crate::answer::done;
-use crate::error::Why;
 use crate::plane::Shape;
 use crate::{groups, Error, LayerBuf, LayerMut, Part, Parts, Ratio, Result, Size, Sums};
 
@@ -35,6 +34,35 @@ pub struct Work<'a> {
     pub kept: &'a mut [u8],
     /// Exactly one byte for each 8 by 8 cell.
     pub cover: &'a mut [u8],
+}
+
+/// The same with slices of its own, for one fit after another.
+#[derive(Clone)]
+pub(crate) struct WorkBuf {
+    models: Vec<f32>,
+    kept: Vec<u8>,
+    cover: Vec<u8>,
+}
+
+impl WorkBuf {
+    /// For a size that is known to be inside the limits.
+    pub fn new(size: Size) -> Self {
+        let pixels = size.width * size.height;
+        Self {
+            models: vec![0.0; 4 * pixels],
+            kept: vec![0; pixels],
+            cover: vec![0; size.cells()],
+        }
+    }
+
+    /// The slices to lend.
+    pub fn work(&mut self) -> Work<'_> {
+        Work {
+            models: &mut self.models,
+            kept: &mut self.kept,
+            cover: &mut self.cover,
+        }
+    }
 }
 
 const NAMES: [[&str; 3]; 3] = [
@@ -88,12 +116,9 @@ pub(crate) fn fitted(
             .neighbour(NAMES[0], previous, size, ratio)
             .part(NAMES[1], own, size, ratio)
             .neighbour(NAMES[2], next, size, ratio)
-            .exactly("models", work.models.len(), Why::Pixels(4, size))
-            .exactly("kept", work.kept.len(), Why::Pixels(1, size))
-            .exactly("cover", work.cover.len(), Why::Cells(size))
+            .work(&work, size)
             .layer_slices(lengths, size, ratio)
-            .setting("limit", settings.limit, [0.5, 255.0])
-            .setting("evidence", settings.evidence, [0.0, 65_536.0])
+            .settings(settings)
             .pairs_beside("previous", "the number of pairs in previous", previous)
             .pairs("the number of pairs in own", own.pairs)
             .pairs_beside("next", "the number of pairs in next", next)
@@ -139,7 +164,7 @@ pub(crate) fn parts<'a>(
 
 impl LayerBuf {
     /// Fits a new layer to sums and those of their neighbours in the clip, of one size and ratio, as [`fit`] does: a
-    /// heavy colour cast is stored as near as 16 bits allow.
+    /// heavy colour cast is stored as near as 16 bits allow. [`Walk`](crate::Walk) does this for each chunk of a clip.
     ///
     /// ```
     /// use safeteal::{Frame, LayerBuf, MotionBuf, Pair, Ratio, Refusal, Settings, Size, Sums};
@@ -172,14 +197,9 @@ impl LayerBuf {
         let call = "LayerBuf::fit";
         let parts = parts(call, previous, own, next)?;
         let (size, ratio) = own.shape();
-        let mut made = Self::zeros(size, ratio, call)?;
-        let pixels = size.width * size.height;
-        let work = Work {
-            models: &mut vec![0.0; 4 * pixels],
-            kept: &mut vec![0; pixels],
-            cover: &mut vec![0; size.cells()],
-        };
-        fitted(call, parts, (size, ratio), settings, work, made.layer_mut())?;
+        let (mut made, mut desk) = (Self::zeros(size, ratio, call)?, WorkBuf::new(size));
+        let (work, layer) = (desk.work(), made.layer_mut());
+        fitted(call, parts, (size, ratio), settings, work, layer)?;
         Ok(made)
     }
 }

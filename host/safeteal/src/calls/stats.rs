@@ -44,32 +44,49 @@ fn added(
     pair: &Pair<'_>,
 ) -> Result<()> {
     let lengths = [luma.len(), chroma1.len(), chroma2.len()];
-    Error::of_sizes(call, |search| sizes(search, (size, ratio), pair))?;
+    sizes(call, SUMS, (size, ratio), pair)?;
     let word = groups::stats(luma, [chroma1, chroma2], pairs, size, ratio.number(), pair);
     done(call, word, |search| {
-        let mut search = search.size(size).ratio(ratio.number(), size);
-        for at in Channel::ALL.iter().map(|channel| channel.number()) {
-            search = search.plane(FIRST[at], pair.first[at]);
-            search = search.plane(SECOND[at], pair.second[at]);
-        }
         let names = ["luma", "chroma[0]", "chroma[1]"];
-        let search = search.slices(names, lengths, 6, size, ratio);
-        search.motion(&pair.motion).full(pairs)
+        planes(search, (size, ratio), pair)
+            .slices(names, lengths, 6, size, ratio)
+            .motion(&pair.motion)
+            .full(pairs)
     })
 }
 
-/// Planes and a motion that have not the sizes of the sums.
-fn sizes(mut search: Search, shape: Shape, pair: &Pair<'_>) -> Search {
-    for &channel in Channel::ALL {
-        let at = channel.number();
-        let planes = [
-            (FIRST[at][1], pair.first[at].size),
-            (SECOND[at][1], pair.second[at].size),
-        ];
-        search = search.like_sums(shape, channel, &planes);
+/// The planes of sums, in the words for what is not of their size.
+const SUMS: [&str; 3] = ["the sums' luma", "the sums' chroma1", "the sums' chroma2"];
+
+/// Refuses planes and a motion that have not the sizes of the planes of that name. Where that size is wrong itself, the
+/// call refuses it.
+pub(super) fn sizes(
+    call: &'static str,
+    names: [&'static str; 3],
+    (size, ratio): Shape,
+    pair: &Pair<'_>,
+) -> Result<()> {
+    if !size.is_taken(ratio.number()) {
+        return Ok(());
     }
-    if shape.0.is_taken(shape.1.number()) {
-        search = search.over(&pair.motion, "the sums' luma", shape.0);
+    Error::of_sizes(call, |mut search| {
+        for &channel in Channel::ALL {
+            let at = channel.number();
+            let must = size.plane(channel, ratio);
+            for (name, plane) in [(FIRST, pair.first), (SECOND, pair.second)] {
+                search = search.same(name[at][1], plane[at].size, names[at], must);
+            }
+        }
+        search.over(&pair.motion, names[0], size)
+    })
+}
+
+/// A size, its ratio, and the six planes of a pair.
+pub(super) fn planes(search: Search, (size, ratio): Shape, pair: &Pair<'_>) -> Search {
+    let mut search = search.size(size).ratio(ratio.number(), size);
+    for at in Channel::ALL.iter().map(|channel| channel.number()) {
+        search = search.plane(FIRST[at], pair.first[at]);
+        search = search.plane(SECOND[at], pair.second[at]);
     }
     search
 }

@@ -2,7 +2,10 @@
 
 use super::{Fault, Number, Why};
 use crate::groups::{Form, LentLayer};
-use crate::{Channel, Frames, Mask, Motion, Part, Plane, PlaneMut, Ratio, Refusal, Size, Sums};
+use crate::{
+    Channel, Frames, Mask, Motion, Part, Plane, PlaneMut, Ratio, Refusal, Settings, Size, Sums,
+    Work,
+};
 
 /// Goes through the arguments of a refused call in the order of the table. Only what bears on the refusal is looked at,
 /// so that all rows before it hold.
@@ -182,6 +185,13 @@ impl Search {
         self.slices(["luma", "chroma[0]", "chroma[1]"], lengths, 2, size, ratio)
     }
 
+    /// What fit works in.
+    pub fn work(self, work: &Work<'_>, size: Size) -> Self {
+        self.exactly("models", work.models.len(), Why::Pixels(4, size))
+            .exactly("kept", work.kept.len(), Why::Pixels(1, size))
+            .exactly("cover", work.cover.len(), Why::Cells(size))
+    }
+
     /// The sums of a part.
     pub fn part(self, names: [&'static str; 3], part: Part<'_>, size: Size, ratio: Ratio) -> Self {
         let lengths = [part.luma, part.chroma[0], part.chroma[1]].map(<[f32]>::len);
@@ -250,6 +260,15 @@ impl Search {
 
     pub fn setting(self, name: &'static str, value: f32, limits: [f32; 2]) -> Self {
         self.range(Refusal::Setting, name, Number::Float, value, limits)
+    }
+
+    /// What fit takes for lettering.
+    pub fn settings(self, settings: Settings) -> Self {
+        self.setting("limit", settings.limit, [0.5, 255.0]).setting(
+            "evidence",
+            settings.evidence,
+            [0.0, 65_536.0],
+        )
     }
 
     pub fn time(self, time: f32) -> Self {

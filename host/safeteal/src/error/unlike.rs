@@ -7,13 +7,12 @@ use crate::groups::{Form, LentLayer};
 use crate::plane::Shape;
 use crate::{Channel, Frame, Motion, Ratio, Refusal, Size};
 
-/// One plane of a layer, or of sums, in the words for what is not of its size.
+/// One plane of a layer, in the words for what is not of its size.
 const OF_LAYER: [&str; 3] = [
     "the layer's luma",
     "the layer's chroma1",
     "the layer's chroma2",
 ];
-const OF_SUMS: [&str; 3] = ["the sums' luma", "the sums' chroma1", "the sums' chroma2"];
 
 /// An argument that has not the size it must have: each with both sizes.
 #[derive(Clone, Copy, Debug, PartialEq)]
@@ -125,23 +124,6 @@ impl Search {
         if layer.size.is_taken(layer.ratio) {
             for &(name, is) in planes {
                 self = self.same(name, is, OF_LAYER[channel.number()], layer.plane(channel));
-            }
-        }
-        self
-    }
-
-    /// Planes of one channel that must have the size that it has in sums. Where the sums' own size is wrong, the call
-    /// refuses that.
-    pub fn like_sums(
-        mut self,
-        (size, ratio): Shape,
-        channel: Channel,
-        planes: &[(&'static str, Size)],
-    ) -> Self {
-        if size.is_taken(ratio.number()) {
-            for &(name, is) in planes {
-                let must = size.plane(channel, ratio);
-                self = self.same(name, is, OF_SUMS[channel.number()], must);
             }
         }
         self

@@ -1,0 +1,2 @@
+-- Laws of a walk's numbers.
+pub mod Numbers
