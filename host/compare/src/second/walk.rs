@@ -1,4 +1,5 @@
-//! The turns of a walk over a clip, from the words of request W-204 alone. In quotation marks stand the paper's own.
+//! The turns of a walk over a clip, from the words of request W-204; which numbers a walk can have, from our reading of
+//! it, held to a search of all calls in turn below. In quotation marks stand the paper's own words.
 
 /// "one layer per chunk of 12".
 pub const CHUNK: usize = 12;
