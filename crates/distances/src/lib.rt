@@ -1,4 +1,6 @@
 // The chessboard distance transform of Rosenfeld and Pfaltz, in two passes over the complete rows.
+#![tactic(auto)]
+
 ghost use Rattle.std.specs.Prelude.{◌≡◌, ◌+◌, ◌-◌, ◌/◌, ◌≤◌, ◌<◌, min, length};
 ghost use Rattle.rules.specs.Distances.{whole};
 ghost use Rattle.distances.specs.Call.{DistancesAnswered};

@@ -1,5 +1,7 @@
 // Byte planes: the tests of sizes, ratios, pitches, lengths and times, choices without a branch, and one pixel of a
 // pass.
+#![tactic(auto)]
+
 ghost use Rattle.std.specs.Prelude.{◌≡◌, ◌&&◌, ◌||◌, not, cond, ◌+◌, ◌-◌, ◌*◌, ◌/◌, ◌%◌, ◌<◌, ◌≤◌, ◌^◌, min, leb, eqb, length};
 ghost use Rattle.rules.specs.Float.{within as within_of};
 ghost use Rattle.rules.specs.Domain.{is_size, are_sizes, is_ratio, is_pitch, is_time};

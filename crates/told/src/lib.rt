@@ -1,4 +1,6 @@
 // What an exported call tells: specs/. Here is an answer as one number.
+#![tactic(auto)]
+
 ghost use Rattle.std.specs.Prelude.{◌≡◌, ◌≤◌};
 ghost use Rattle.rules.specs.Host.{word as word_of, yes_word, reply_word};
 
