@@ -1,5 +1,7 @@
 // The cell lookup: the one place where a pixel's column or row becomes its cell's. It is to "hold no division or
 // remainder": tools/undivided fails where one stands in it.
+#![tactic(auto)]
+
 ghost use Rattle.std.specs.Prelude.{◌≡◌, ◌/◌};
 ghost use Rattle.layer_lookup.specs.Side.{IsSide};
 
