@@ -1,4 +1,6 @@
 // Tables: slices of which each entry is a function of its place, and their lengths.
+#![tactic(auto)]
+
 ghost use Rattle.std.specs.Prelude.{◌≡◌, ◌+◌, ◌*◌, ◌<◌, ◌≤◌, eqb, length, set};
 ghost use Rattle.rules.specs.Forms.{cells as cells_of};
 ghost use Rattle.table.specs.Models.{model_put};
