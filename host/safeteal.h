@@ -1,6 +1,6 @@
 /* Safeteal for C: lifts lettering that stands still (a logo, a date stamp) off the frames of a clip, and lays it back.
 
-   The functions are those of libhost.a, which `rt staticlib host` writes to target/staticlib; it is for x86-64 Linux.
+   The functions are those of libhost.a, which `tools/library` writes to target/staticlib; it is for x86-64 Linux.
    host/c has examples. To build one, in the project's root:
 
        cc -Ihost host/c/chain.c target/staticlib/libhost.a -o chain

@@ -1,6 +1,6 @@
 //! Links the proved library, libhost.a.
 //!
-//! `SAFETEAL_LIB` names a folder with a finished one; without it `rt staticlib host` is run in the project's root. A
+//! `SAFETEAL_LIB` names a folder with a finished one; without it `tools/library` of the project is run. A
 //! relative folder is taken from the folder `host`.
 
 use std::path::{Path, PathBuf};
@@ -25,26 +25,30 @@ fn main() {
 fn made() -> PathBuf {
     let host = host();
     let root = host.parent().expect("the folder host stands in the root");
-    for source in ["crates", "crates.txt"] {
-        println!("cargo:rerun-if-changed={}", root.join(source).display());
+    println!("cargo:rerun-if-changed={}", root.join("crates.txt").display());
+    // What a check keeps in a crate's folder `out` is no source.
+    for folder in root.join("crates").read_dir().expect("the crates").flatten() {
+        for part in ["src", "specs", "proofs"] {
+            let source = folder.path().join(part);
+            if source.is_dir() {
+                println!("cargo:rerun-if-changed={}", source.display());
+            }
+        }
     }
     prove(root);
     root.join("target/staticlib")
 }
 
-/// Proves the crate `host` and writes target/staticlib/libhost.a in the project's root.
+/// Proves the C interface and writes target/staticlib/libhost.a in the project's root.
 fn prove(root: &Path) {
-    let run = Command::new("rt")
-        .args(["staticlib", "host"])
-        .current_dir(root)
-        .output();
+    let run = Command::new(root.join("tools/library")).output();
     match run {
         Err(error) => stop(&format!(
-            "the Rattle toolchain's command `rt` could not be started ({error}).\n\
+            "tools/library could not be started ({error}).\n\
              Install the Rattle kit so that `rt` is on the PATH, or set SAFETEAL_LIB to a folder with a finished libhost.a."
         )),
         Ok(run) if !run.status.success() => stop(&format!(
-            "`rt staticlib host` failed ({}):\n{}{}",
+            "`tools/library` failed ({}):\n{}{}",
             run.status,
             String::from_utf8_lossy(&run.stdout),
             String::from_utf8_lossy(&run.stderr)
