@@ -15,8 +15,7 @@ use Rattle.float.specs.Nearest.{size_of}
 use Rattle.laws.proofs.Value.{T_of}
 use Rattle.laws.proofs.Order.{lt_trans_float}
 use Rattle.float.proofs.Held.{Inside, inside, past, flip_origin, flip_end, below_origin, size_neg, at_origin}
-use Rattle.float.proofs.fixed.Statement.{statement}
-use Rattle.float.proofs.fixed.Tie as tie
+use Rattle.float.proofs.fixed.Goals as goal
 
 -- what `nearest` asks, of a float above 0 and below 32767
 asked : (y : Float) → lt (fin false 0 (pos 0)) y ≡ true → lt y (fin false 32767 (pos 0)) ≡ true → T (lt (fin false 0 (pos 0)) y) × T (lt y (fin false 1 (pos 16)))
@@ -55,76 +54,73 @@ module _ (y : Float) (a : lt y (fin false 0 (pos 0)) ≡ true) (b : lt (fin true
   unfolding rounded_short
   down_is = ap (λ (k : ℕ). neg_ℤ (pos k)) (e ∙ sym down-in.same ∙ size_neg 32767 y) ∙ sym (simp (below_origin y a))
 
-nearest-requires : tie.Need-nearest-requires
+pub nearest-requires : goal.nearest-requires
 unfolding of_bits
-nearest-requires c κs = asked (Y c.before.before.args.value c.before.before.args.scale) c.before.if1.true c.if2.true
+nearest-requires c =
+    let p = asked (Y c.args.value c.args.scale) c.if-y.true c.if-y-2.true in
+    record { fact_1 = p.0; fact_2 = p.1 }
 
-cast-result : tie.Need-overflow-cast-result
+pub overflow_cast-result : goal.overflow_cast-result
 unfolding of_bits
-cast-result c =
-    let y = Y c.before.before.before.args.value c.before.before.before.args.scale in
-    record { sfits = small y c.nearest.result (inside 32767 y c.before.before.if1.true c.before.if2.true) c.nearest.ensures }
+overflow_cast-result c =
+    let y = Y c.args.value c.args.scale in
+    record { sfits = small y c.nearest.result (inside 32767 y c.if-y.true c.if-y-2.true) c.nearest.ensures }
 
-nearest-requires-2 : tie.Need-nearest-requires-2
+pub nearest-requires-then-y-4 : goal.nearest-requires-then-y-4
 unfolding of_bits neg
-nearest-requires-2 c κs =
-    let y = Y c.before.before.before.args.value c.before.before.before.args.scale in
-    asked (neg y) (flip_origin y c.before.if3.true) (sym (flip_end 32767 y) ∙ c.if4.true)
+nearest-requires-then-y-4 c =
+    let y = Y c.args.value c.args.scale in
+    let p = asked (neg y) (flip_origin y c.if-y-3.true) (sym (flip_end 32767 y) ∙ c.if-y-4.true) in
+    record { fact_1 = p.0; fact_2 = p.1 }
 
-cast-result-2 : tie.Need-overflow-cast-result-2
+pub overflow_cast-result-then-y-4 : goal.overflow_cast-result-then-y-4
 unfolding of_bits neg
-cast-result-2 c =
-    let y = Y c.before.before.before.before.args.value c.before.before.before.before.args.scale in
-    record { sfits = down-small y c.before.before.if3.true c.before.if4.true c.nearest2.result c.nearest2.ensures }
+overflow_cast-result-then-y-4 c =
+    let y = Y c.args.value c.args.scale in
+    record { sfits = down-small y c.if-y-3.true c.if-y-4.true c.nearest-then-y-4.result c.nearest-then-y-4.ensures }
 
-sub-result : tie.Need-overflow-sub-result
+pub overflow_sub-result : goal.overflow_sub-result
 unfolding of_bits neg
-sub-result c =
-    let y = Y c.before.before.before.before.args.value c.before.before.before.before.args.scale in
-    let n = c.nearest2.result in
-    let h = down-small y c.before.before.if3.true c.before.if4.true n c.nearest2.ensures in
+overflow_sub-result c =
+    let y = Y c.args.value c.args.scale in
+    let n = c.nearest-then-y-4.result in
+    let h = down-small y c.if-y-3.true c.if-y-4.true n c.nearest-then-y-4.ensures in
     subst (λ (z : ℤ). SFits w16 z) (sym (minus n h)) (minus_fits n h)
 
-returns : tie.Need-returns
+pub returns-then-y-2 : goal.returns-then-y-2
 unfolding of_bits stored rounded_short
-returns c =
-    up_is (Y c.before.before.before.args.value c.before.before.before.args.scale) c.before.before.if1.true c.before.if2.true c.nearest.result c.nearest.ensures
+returns-then-y-2 c =
+    up_is (Y c.args.value c.args.scale) c.if-y.true c.if-y-2.true c.nearest.result c.nearest.ensures
 
-returns-2 : tie.Need-returns-2
+pub returns-else-y-2 : goal.returns-else-y-2
 unfolding of_bits stored rounded_short
-returns-2 c =
-    let p = past 32767 (Y c.before.before.args.value c.before.before.args.scale) c.before.if1.true c.if2.false in
+returns-else-y-2 c =
+    let p = past 32767 (Y c.args.value c.args.scale) c.if-y.true c.if-y-2.false in
     sym (simp (p.sign, p.same))
 
-returns-3 : tie.Need-returns-3
+pub returns-then-y-4 : goal.returns-then-y-4
 unfolding of_bits neg stored rounded_short
-returns-3 c =
-    let y = Y c.before.before.before.before.args.value c.before.before.before.before.args.scale in
-    let n = c.nearest2.result in
-    let a = c.before.before.if3.true in
-    let b = c.before.if4.true in
-    let h = down-small y a b n c.nearest2.ensures in
-    ap (λ (z : ℤ). to_z w16 (of_z w16 z)) (minus n h) ∙ to_z-of_z (minus_fits n h) ∙ down_is y a b n c.nearest2.ensures
+returns-then-y-4 c =
+    let y = Y c.args.value c.args.scale in
+    let n = c.nearest-then-y-4.result in
+    let a = c.if-y-3.true in
+    let b = c.if-y-4.true in
+    let h = down-small y a b n c.nearest-then-y-4.ensures in
+    ap (λ (z : ℤ). to_z w16 (of_z w16 z)) (minus n h) ∙ to_z-of_z (minus_fits n h) ∙ down_is y a b n c.nearest-then-y-4.ensures
 
-returns-4 : tie.Need-returns-4
+pub returns-else-y-4 : goal.returns-else-y-4
 unfolding of_bits neg stored rounded_short
-returns-4 c =
-    let y = Y c.before.before.before.args.value c.before.before.before.args.scale in
-    let p = past 32767 (neg y) (flip_origin y c.before.if3.true) (sym (flip_end 32767 y) ∙ c.if4.false) in
-    sym (simp (below_origin y c.before.if3.true, sym (size_neg 32767 y) ∙ p.same))
+returns-else-y-4 c =
+    let y = Y c.args.value c.args.scale in
+    let p = past 32767 (neg y) (flip_origin y c.if-y-3.true) (sym (flip_end 32767 y) ∙ c.if-y-4.false) in
+    sym (simp (below_origin y c.if-y-3.true, sym (size_neg 32767 y) ∙ p.same))
 
-returns-5 : tie.Need-returns-5
+pub returns-else-y-3 : goal.returns-else-y-3
 unfolding of_bits stored rounded_short
-returns-5 c =
-    let y = Y c.before.before.args.value c.before.before.args.scale in
-    sym (nought (negative y) (at_origin 32767 y c.before.if1.false c.if3.false))
+returns-else-y-3 c =
+    let y = Y c.args.value c.args.scale in
+    sym (nought (negative y) (at_origin 32767 y c.if-y.false c.if-y-3.false))
   where
     nought : {k : ℕ} (b : Bool) → k ≡ 0 → cond b (neg_ℤ (pos k)) (pos k) ≡ pos 0
     nought true e = ap (λ (n : ℕ). neg_ℤ (pos n)) e
     nought false e = ap pos e
-
-pub fixed_spec : {M : Type 1} → statement M
-fixed_spec =
-    tie.close
-    (tie.spec nearest-requires cast-result nearest-requires-2 cast-result-2 sub-result returns returns-2
-    returns-3 returns-4 returns-5)

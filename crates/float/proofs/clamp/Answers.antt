@@ -1,0 +1,16 @@
+-- `float::clamp` meets its contract: each arm returns what the definition picks where the tests are as the arm found
+-- them. Assumes nothing.
+use Rattle.rules.specs.Float.{clamp as clamp_of}
+use Rattle.float.proofs.clamp.Goals as goal
+
+pub returns-then-x-lo : goal.returns-then-x-lo
+unfolding clamp_of
+returns-then-x-lo c = simp c.if-x-lo.true
+
+pub returns-then-hi-x : goal.returns-then-hi-x
+unfolding clamp_of
+returns-then-hi-x c = simp (c.if-x-lo.false, c.if-hi-x.true)
+
+pub returns-else-hi-x : goal.returns-else-hi-x
+unfolding clamp_of
+returns-else-hi-x c = simp (c.if-x-lo.false, c.if-hi-x.false)

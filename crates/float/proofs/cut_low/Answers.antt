@@ -1,0 +1,16 @@
+-- `float::cut_low` meets its contract. Assumes nothing.
+use lib.Ieee.{of_bits}
+use Rattle.float.proofs.Floor.{floored, number, taken}
+use Rattle.float.proofs.cut_low.Goals as goal
+
+pub float_to_int-n : goal.float_to_int-n
+unfolding of_bits
+float_to_int-n c = (number _ _ (floored c.args.x c.requires.fact_1 c.requires.fact_2)).0
+
+pub overflow_sub-result : goal.overflow_sub-result
+unfolding of_bits
+overflow_sub-result c = rw c.bit.ensures (taken _ _ (floored c.args.x c.requires.fact_1 c.requires.fact_2)).0
+
+pub returns : goal.returns
+unfolding of_bits
+returns c = rw c.bit.ensures (taken _ _ (floored c.args.x c.requires.fact_1 c.requires.fact_2)).1
