@@ -1,16 +1,16 @@
 -- Numbers at a place of a parcel, and what begins there. Assumes nothing.
-use mathlib.Core.Path.{◌≡◌, refl, sym, ◌∙◌}
-use mathlib.Core.Bool.{Bool, true, false, cond}
+use mathlib.Core.Path.{◌≡◌, ◌∙◌}
+use mathlib.Core.Bool.{false}
 use mathlib.Core.List.{List}
 use Prim.Native.Nat.{ℕ, ◌+◌, ◌-◌, ◌*◌, ◌≤◌, ◌<◌}
 use native.Mathlib.Nat.{add-zero}
 use native.Mathlib.Omega.{arith}
 use borrow.Author.Tests.{eq-eqb, ne_eqb, le-leb, lt-leb}
-use lib.Dec.{eqb, leb}
-use lib.ListN.{length, get_or, drop, length-drop}
+use lib.Dec.{eqb}
+use lib.ListN.{length, drop, length-drop}
 use lib.Seq.{get_or-drop}
 use Rattle.rules.specs.Host.{little}
-use Rattle.rules.specs.Parcel.{length_at, begins_whole}
+use Rattle.rules.specs.Parcel.{length_at}
 use Rattle.parcel_records.specs.declared.Step.TheVariants.{Whole, Cut, End}
 use Rattle.parcel_records.specs.Steps.{step_at}
 

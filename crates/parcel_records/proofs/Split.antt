@@ -1,18 +1,15 @@
 -- The records of a parcel, from a place on. Assumes nothing.
-use mathlib.Core.Path.{◌≡◌, refl, sym, ap, ◌∙◌}
-use mathlib.Core.Bool.{Bool, true, false, cond, ◌&&◌}
+use mathlib.Core.Path.{◌≡◌, refl, sym, ◌∙◌}
+use mathlib.Core.Bool.{Bool, true, false, cond}
 use mathlib.Core.List.{List, [], ◌∷◌}
-use Prim.Native.Nat.{ℕ, zero, suc, ◌+◌, ◌-◌, ◌≤◌, ◌<◌}
-use native.Mathlib.Nat.{add-zero, add-suc, add-sub_of_le}
+use Prim.Native.Nat.{ℕ, zero, suc, ◌+◌, ◌-◌, ◌≤◌}
+use native.Mathlib.Nat.{add-zero, add-suc}
 use native.Mathlib.Omega.{arith}
-use borrow.Author.Tests.{leb-true, eqb-true, eqb-false, le-leb}
-use lib.Dec.{eqb, leb}
-use lib.ListN.{length, take, drop, length-drop}
-use lib.Seq.{drop-drop}
+use borrow.Author.Tests.{eqb-true, eqb-false}
+use lib.Dec.{eqb}
+use lib.ListN.{length, drop, length-drop}
 use Rattle.rules.specs.Host.{little}
-use Rattle.rules.specs.Parcel.{Record, length_at, begins_whole, first_record, split, records}
-use Rattle.laws.proofs.Accepted.{both}
-use Rattle.parcel_records.specs.declared.Step.{Step}
+use Rattle.rules.specs.Parcel.{length_at, begins_whole, first_record, split}
 use Rattle.parcel_records.specs.declared.Step.TheVariants.{Whole, Cut, End}
 use Rattle.parcel_records.specs.Steps.{step_at, splits}
 

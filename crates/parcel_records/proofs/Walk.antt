@@ -1,15 +1,14 @@
 -- A record more on the way through a parcel. Assumes nothing.
-use mathlib.Core.Path.{◌≡◌, refl, sym, ap, ◌∙◌}
+use mathlib.Core.Path.{◌≡◌, refl, ◌∙◌}
 use mathlib.Core.Bool.{Bool, true, false, cond}
-use mathlib.Core.Logic.{◌⊎◌, inl, inr}
 use mathlib.Core.List.{List, [], ◌∷◌}
-use Prim.Native.Nat.{ℕ, zero, suc, ◌+◌, ◌-◌, ◌≤◌, ◌<◌}
+use Prim.Native.Nat.{ℕ, ◌+◌, ◌-◌, ◌≤◌, ◌<◌}
 use native.Mathlib.Omega.{arith}
-use borrow.Author.Tests.{leb-true, eqb-true, eqb-false, eq-eqb, ne_eqb}
+use borrow.Author.Tests.{leb-true, eqb-true, eq-eqb, ne_eqb}
 use lib.Dec.{eqb, leb}
 use lib.ListN.{length, take, drop, length-drop}
 use lib.Seq.{drop-drop}
-use Rattle.rules.specs.Parcel.{Record, length_at, begins_whole, first_record, records, is_whole, how_often, payload_of}
+use Rattle.rules.specs.Parcel.{Record, length_at, first_record, records, how_often, payload_of}
 use Rattle.laws.proofs.Accepted.{both}
 use Rattle.parcel_records.specs.declared.Place.{Place}
 use Rattle.parcel_records.specs.declared.Tally.TheVariants.{Cut as CutShort, Records}

@@ -1,4 +1,6 @@
 // The records of a parcel, as they lie in its bytes.
+#![tactic(auto)]
+
 ghost use Rattle.std.specs.Prelude.{◌≡◌, ◌+◌, ◌*◌, ◌<◌, ◌≤◌, length};
 ghost use Rattle.rules.specs.Host.{little};
 ghost use Rattle.parcel_records.specs.Steps.{step_at, count_of, noted_of, Placed};
