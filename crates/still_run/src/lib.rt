@@ -1,4 +1,6 @@
 // Up to eight bytes that follow one another, added to a total without a loop.
+#![tactic(auto)]
+
 ghost use Rattle.std.specs.Prelude.{◌≤◌};
 ghost use Rattle.still_run.specs.Run.{RunIn, Ran};
 

@@ -1,0 +1,6 @@
+-- `still_run::few` meets its contract. Assumes nothing.
+use Rattle.still_run.proofs.Split.{parts}
+use Rattle.still_run.proofs.few.Goals as goal
+
+pub returns : goal.returns
+returns c = parts 2 c.if-n-lt2.false c.two.ensures c.last-2.ensures

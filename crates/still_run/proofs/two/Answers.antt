@@ -1,0 +1,7 @@
+-- `still_run::two` meets its contract. Assumes nothing.
+use native.Mathlib.Omega.{arith}
+use Rattle.still_run.proofs.Split.{parts}
+use Rattle.still_run.proofs.two.Goals as goal
+
+pub returns : goal.returns
+returns c = parts 1 (omega arith) c.one.ensures c.one-2.ensures
