@@ -1,11 +1,13 @@
 // A layer that is lent as numbers or as little-endian bytes: one body reads both.
+#![tactic(auto)]
+
 ghost use Rattle.std.specs.Prelude.{◌≡◌, ◌+◌, ◌*◌, ◌<◌, pos, length, get_or};
 ghost use Rattle.rules.specs.Host.{signed16};
 ghost use Rattle.layer_lent.specs.Lent.{lent, plan_of};
 
 // What a layer is lent with besides its slices, the plane that is worked on, and the numbers of the byte planes over
 // it.
-#[derive(Drop)]
+#[derive(Clone, Copy)]
 pub struct Shape {
     // The slices are bytes.
     pub packed: bool,
@@ -24,7 +26,7 @@ pub struct Shape {
 }
 
 // A shape, and what follows from it.
-#[derive(Drop)]
+#[derive(Clone, Copy)]
 pub struct Plan {
     pub shape: Shape,
     // Luma pixels per pixel of the plane, each way.
