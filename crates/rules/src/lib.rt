@@ -1,14 +1,14 @@
 // The types of the paper. What is right of them is said in specs/, heading by heading.
 
 // "a gain and an offset, a pair of floats kept together"
-#[derive(Drop)]
+#[derive(Clone, Copy)]
 pub struct Model {
     pub gain: f32,
     pub offset: f32,
 }
 
 // "previous, own and next; previous and own; own and next"
-#[derive(Drop)]
+#[derive(Clone, Copy)]
 pub enum Trial {
     All,
     PreviousOwn,
@@ -16,36 +16,36 @@ pub enum Trial {
 }
 
 // "nothing, or a model with the trial it came from"
-#[derive(Drop)]
+#[derive(Clone, Copy)]
 pub enum Found {
     At(Model, Trial),
     Nothing,
 }
 
 // A gain as it is stored: in 4096ths.
-#[derive(Drop)]
+#[derive(Clone, Copy)]
 pub struct Gain(pub i16);
 
 // An offset as it is stored: in 64ths.
-#[derive(Drop)]
+#[derive(Clone, Copy)]
 pub struct Offset(pub i16);
 
 // "A scene value is either lifted or left raw, one float each way"
-#[derive(Drop)]
+#[derive(Clone, Copy)]
 pub enum Scene {
     Lifted(f32),
     Raw(f32),
 }
 
 // What a call answers: the number of its refusal, or 0; and the count of the pixels written.
-#[derive(Drop)]
+#[derive(Clone, Copy)]
 pub struct Answer {
     pub number: u8,
     pub count: usize,
 }
 
 // What `empty` answers: a yes or no besides.
-#[derive(Drop)]
+#[derive(Clone, Copy)]
 pub struct Reply {
     pub answer: Answer,
     pub yes: bool,
@@ -54,7 +54,7 @@ pub struct Reply {
 // What a call answers that tells sizes: its answer as one number, and the sizes and the ratio, all 0 when refused. It
 // passes to C as it stands.
 #[repr(C)]
-#[derive(Drop)]
+#[derive(Clone, Copy)]
 pub struct Sizes {
     pub word: u64,
     pub width: usize,
@@ -65,7 +65,7 @@ pub struct Sizes {
 // A walk over a clip, as each of its calls gets it and answers it: luma's size and the ratio, the clip's number of
 // pairs, how many of these were added, and how many layers were taken. It passes to C as it stands.
 #[repr(C)]
-#[derive(Drop)]
+#[derive(Clone, Copy)]
 pub struct Walk {
     pub width: usize,
     pub height: usize,
@@ -77,7 +77,7 @@ pub struct Walk {
 
 // What a call of a walk answers: its answer as one number, and the walk. It passes to C as it stands.
 #[repr(C)]
-#[derive(Drop)]
+#[derive(Clone, Copy)]
 pub struct Walked {
     pub word: u64,
     pub walk: Walk,
@@ -87,7 +87,7 @@ pub struct Walked {
 
 // Six sums, or the six terms that a pair of frames adds to them, over moved samples p and the samples i in their place:
 // of both, of squares and products, and how many lie far apart.
-#[derive(Drop)]
+#[derive(Clone, Copy)]
 pub struct Sums {
     pub p: f32,
     pub i: f32,
@@ -98,7 +98,7 @@ pub struct Sums {
 }
 
 // Means, variances and covariance of the sums, in `model`.
-#[derive(Drop)]
+#[derive(Clone, Copy)]
 pub struct Spread {
     pub mp: f32,
     pub mi: f32,
@@ -108,7 +108,7 @@ pub struct Spread {
 }
 
 // A trial's model, its error on the own part, the trial, and its sixth total, in `window`.
-#[derive(Drop)]
+#[derive(Clone, Copy)]
 pub struct Best {
     pub model: Model,
     pub error: f32,
@@ -117,7 +117,7 @@ pub struct Best {
 }
 
 // Two neighbouring entries of a row or column, and the share of the second, of `taps`.
-#[derive(Drop)]
+#[derive(Clone, Copy)]
 pub struct Taps {
     pub first: usize,
     pub second: usize,
@@ -125,7 +125,7 @@ pub struct Taps {
 }
 
 // How far a pixel moves in the first frame and in the second, across and down, of `steps`.
-#[derive(Drop)]
+#[derive(Clone, Copy)]
 pub struct Steps {
     pub fx: f32,
     pub fy: f32,
@@ -134,14 +134,14 @@ pub struct Steps {
 }
 
 // The total and the number of the lifted values of a ring, in `scene`.
-#[derive(Drop)]
+#[derive(Clone, Copy)]
 pub struct Ring {
     pub total: f32,
     pub count: f32,
 }
 
 // What render sees at a moved point: the scene, whether the layer is on there, and the raw sample.
-#[derive(Drop)]
+#[derive(Clone, Copy)]
 pub struct Moved {
     pub scene: Scene,
     pub on: bool,
