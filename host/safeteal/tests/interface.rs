@@ -49,7 +49,7 @@ fn proved() -> Interface {
             .chain([bare(answer).to_owned()]);
         (name.to_owned(), lines.collect())
     };
-    let text = read(&package().join("../../crates/host/src/lib.rt"));
+    let text = read(&package().join("../../crates/host_c/src/lib.rt"));
     let functions = text.split("pub extern \"C\" fn ").skip(1);
     functions.map(function).collect()
 }
