@@ -1,4 +1,6 @@
 // Scene values: what a model makes of a sample, and the mean of a ring.
+#![tactic(auto)]
+
 ghost use Rattle.std.specs.Prelude.{◌≡◌};
 ghost use Rattle.rules.specs.Scene.{value as value_of, lift as lift_of, lifted as lifted_of, gathered, mean_or};
 ghost use Rattle.rules.specs.Unpeel.{relaid as relaid_of};
