@@ -1,4 +1,6 @@
 // The mask cells of a pixel: the steps from pixels to cells, and the sum of a pixel's cells.
+#![tactic(auto)]
+
 ghost use Rattle.std.specs.Prelude.{◌≡◌, ◌&&◌, ◌+◌, ◌*◌, ◌/◌, ◌≤◌, leb};
 ghost use Rattle.rules.specs.Domain.{are_steps};
 ghost use Rattle.calls.specs.Lent.{mask_of};

@@ -1,0 +1,6 @@
+-- `still_cells::step_down` meets its contract. Assumes nothing.
+use native.Mathlib.Nat.{div-div-eq-div-mul}
+use Rattle.still_cells.proofs.step_down.Goals as goal
+
+pub returns : goal.returns
+returns c = rw (c.divided-2.ensures, c.divided.ensures, div-div-eq-div-mul)

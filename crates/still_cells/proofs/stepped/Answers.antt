@@ -1,0 +1,10 @@
+-- `still_cells::stepped` meets its contract. Assumes nothing.
+use lib.ListN.{length}
+use Rattle.still_cells.proofs.Whole.{exact, exact_both}
+use Rattle.still_cells.proofs.stepped.Goals as goal
+
+pub returns : goal.returns
+returns c =
+    let a = c.args in
+    let n = a.numbers in
+    cc (exact n.width n.mask_width, exact_both n.mask_width n.height (length a.mask.now))
