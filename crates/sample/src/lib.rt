@@ -1,4 +1,6 @@
 // A byte plane, read at a pixel and between pixels.
+#![tactic(auto)]
+
 ghost use Rattle.std.specs.Prelude.{◌≡◌, ◌+◌, ◌*◌, ◌<◌, ◌≤◌, length};
 ghost use Rattle.rules.specs.Float.{float, cut, ◌⊕◌};
 ghost use Rattle.rules.specs.Reading.{at as at_of};
