@@ -1,4 +1,6 @@
 // Totals over the three parts of a window: what their pixels share, and what a trial adds up.
+#![tactic(auto)]
+
 ghost use Rattle.std.specs.Prelude.{◌≡◌, ◌&&◌, [], ◌+◌, ◌≤◌, length, get_or};
 ghost use Rattle.std.specs.Float.{nan};
 ghost use Rattle.rules.specs.Window.{count, present, plus as plus_of, has_previous, has_next, total};
@@ -9,7 +11,7 @@ ghost use Rattle.fit_total.specs.Alike.{Long, Alike, entry_of};
 use rules::{Sums, Trial};
 
 // What the pixels of a call share.
-#[derive(Drop)]
+#[derive(Clone, Copy)]
 pub struct Counts {
     // the pairs of each part, 0 for an absent neighbour
     pub previous: usize,
