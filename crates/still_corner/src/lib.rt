@@ -1,11 +1,13 @@
 // Which pixels have a full corner: the second pass of mask, in the bytes of the first. A byte's lowest bit stays, and
 // the answer becomes the bit above it.
+#![tactic(auto)]
+
 ghost use Rattle.std.specs.Prelude.{◌≡◌, Bool, ◌&&◌, cond, ℕ, ◌+◌, ◌-◌, ◌*◌, ◌%◌, ◌≤◌, ◌<◌, eqb};
 ghost use Rattle.still_pass.specs.Pass.{PlaneIn};
 ghost use Rattle.still_corner.specs.Corner.{is_odd, column_of, mark_of, Holds, RowMarked, RowsMarked, ColumnIn};
 
 // The pixels of a column in three rows: whether each is the same.
-#[derive(Drop)]
+#[derive(Clone, Copy)]
 pub struct Column {
     pub above: bool,
     pub here: bool,
