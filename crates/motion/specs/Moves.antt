@@ -1,5 +1,5 @@
 -- What the readers of motion ask and give.
-use Rattle.std.specs.Prelude.{◌≡◌, List, [], ◌∷◌, ℕ, ◌+◌, ◌*◌, ◌≤◌, ◌<◌, ℤ, nat_abs, length, get_or, Float}
+use Rattle.std.specs.Prelude.{◌≡◌, List, [], ◌∷◌, ℕ, ◌+◌, ◌*◌, ◌≤◌, ◌<◌, nat_abs, length, get_or, Float}
 use Rattle.std.specs.Borrow.{Bor}
 use Rattle.rules.specs.declared.Taps.{Taps}
 use Rattle.rules.specs.declared.Steps.{Steps}

@@ -1,4 +1,6 @@
 // Motion between two frames: the entries of its grid around a pixel, and how far the pixel moves.
+#![tactic(auto)]
+
 ghost use Rattle.std.specs.Prelude.{◌≡◌, ◌<◌, ◌≤◌, nat_abs};
 ghost use Rattle.rules.specs.Literals.{1·0};
 ghost use Rattle.rules.specs.Float.{signed, float, ◌⊗◌, ◌⊘◌};
@@ -10,7 +12,7 @@ use rules::{Steps, Taps};
 
 // What a motion's fields are laid out by: a grid of blocks, its origin, and steps in pel parts of a
 // pixel.
-#[derive(Drop)]
+#[derive(Clone, Copy)]
 pub struct Grid {
     pub width: usize,
     pub height: usize,
@@ -23,7 +25,7 @@ pub struct Grid {
 
 // The columns of the four fields around a pixel, and the share of the right ones. A block's pixels
 // share them, so that a row's loop carries them along.
-#[derive(Drop)]
+#[derive(Clone, Copy)]
 pub struct Carried {
     pub first: usize,
     pub share: f32,
