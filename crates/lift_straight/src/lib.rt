@@ -1,4 +1,6 @@
 // Unpeel of a pixel without a branch, so that a run of them goes fast whatever they hold.
+#![tactic(auto)]
+
 ghost use Rattle.std.specs.Prelude.{◌<◌, ◌^◌, length};
 ghost use Rattle.rules.specs.Reading.{at};
 ghost use Rattle.plane.specs.Done.{Stamped};
