@@ -1,4 +1,6 @@
 // What hold and apply do to one pixel, by the sum of its mask cells.
+#![tactic(auto)]
+
 ghost use Rattle.std.specs.Prelude.{◌≡◌, cond, ◌*◌, ◌≤◌, ◌<◌, ltb, length, get_or};
 ghost use Rattle.rules.specs.Float.{float, mix, pixel};
 ghost use Rattle.rules.specs.Still.{weighed as weighed_of};
