@@ -1,4 +1,6 @@
 // The tests of motion numbers and of the lengths of motion fields.
+#![tactic(auto)]
+
 ghost use Rattle.std.specs.Prelude.{◌≡◌, ◌&&◌, true};
 ghost use Rattle.rules.specs.Domain.{spans as spans_of, is_pel, motion_numbers, motion_lengths};
 ghost use Rattle.motion.specs.Moves.{motion_of, laid_out};
