@@ -1,4 +1,6 @@
 // The refusals of the calls over a layer: straight lines, row by row.
+#![tactic(auto)]
+
 ghost use Rattle.std.specs.Prelude.{◌≡◌, ◌&&◌, ◌/◌};
 ghost use Rattle.rules.specs.Domain.{is_pitch, is_plane, layer_lengths};
 ghost use Rattle.rules.specs.Refusals.{empty_refusal, peel_refusal, unpeel_refusal};
