@@ -8,7 +8,7 @@ ghost use Rattle.still_cells.specs.Cells.{row_sum, sum_of, steps_of, Summed, Cel
 
 // The numbers of a call of hold or apply: the plane's width and height, the pitch of what is read and that of the
 // output, the mask's width, and the time between two frames.
-#[derive(Drop)]
+#[derive(Clone, Copy)]
 pub struct Numbers {
     pub width: usize,
     pub height: usize,
@@ -19,7 +19,7 @@ pub struct Numbers {
 }
 
 // How many mask cells a pixel has across and down.
-#[derive(Drop)]
+#[derive(Clone, Copy)]
 pub struct Steps {
     pub across: usize,
     pub down: usize,
