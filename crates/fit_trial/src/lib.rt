@@ -1,4 +1,6 @@
 // The three trials at a luma pixel, and what is picked of them, from its sums in the previous, own and next part.
+#![tactic(auto)]
+
 ghost use Rattle.std.specs.Prelude.{◌≡◌};
 ghost use Rattle.rules.specs.Window.{better as better_of, found as found_of, pick as pick_of};
 ghost use Rattle.fit_total.specs.Around.{around, Counted};
@@ -9,7 +11,7 @@ use rules::{Best, Found, Model, Sums, Trial};
 
 // What is looked for: the limit (`fit` is lent it, and squares it for the window and the trials), the
 // evidence figure, and whether strict models go first.
-#[derive(Drop)]
+#[derive(Clone, Copy)]
 pub struct Settings {
     pub limit: f32,
     pub evidence: f32,
@@ -17,7 +19,7 @@ pub struct Settings {
 }
 
 // The models of the three trials.
-#[derive(Drop)]
+#[derive(Clone, Copy)]
 pub struct Trials {
     pub all: Model,
     pub earlier: Model,
