@@ -1,4 +1,6 @@
 // The cells of a layer: their stored numbers, and a pixel's distance.
+#![tactic(auto)]
+
 ghost use Rattle.std.specs.Prelude.{◌≡◌, [], ◌<◌, ◌≤◌};
 ghost use Rattle.rules.specs.Literals.{0·0, 8·0};
 ghost use Rattle.rules.specs.Float.{◌⊗◌, ◌⊖◌, ◌≼◌, signed};

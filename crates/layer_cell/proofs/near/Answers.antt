@@ -2,11 +2,7 @@
 use mir.Syntax.{w16}
 use Rattle.layer_lent.proofs.Signed.{back}
 use Rattle.layer_cell.proofs.Ends.{gap_test}
-use Rattle.layer_cell.proofs.near.Statement.{statement}
-use Rattle.layer_cell.proofs.near.Tie as tie
+use Rattle.layer_cell.proofs.near.Goals as goal
 
-returns : tie.Need-returns
+pub returns : goal.returns
 returns c = rw (back w16 c.args.distance c.ranges.distance.sfits) (gap_test c.args.distance c.ranges.distance.sfits)
-
-pub near_spec : {M : Type 1} → statement M
-near_spec = tie.close (tie.spec returns)
