@@ -1,4 +1,6 @@
 // How far a motion reaches.
+#![tactic(auto)]
+
 ghost use Rattle.std.specs.Prelude.{◌≡◌, ◌≤◌, max, nat_abs};
 ghost use Rattle.rules.specs.Forms.{apart as apart_of};
 ghost use Rattle.rules.specs.Render.{farthest as farthest_of, far as far_of};
