@@ -1,4 +1,6 @@
 // Keeping, at one pixel: how many of its neighbours are set, and what becomes of it.
+#![tactic(auto)]
+
 ghost use Rattle.std.specs.Prelude.{◌≡◌, cond, ◌+◌, ◌*◌, ◌/◌, ◌%◌, ◌<◌, ◌≤◌, length};
 ghost use Rattle.rules.specs.Model.{set};
 ghost use Rattle.rules.specs.Keeping.{beside as beside_of, model_of, near as near_of};
