@@ -1,4 +1,6 @@
 // Which pixels of two planes are the same: the first pass of mask.
+#![tactic(auto)]
+
 ghost use Rattle.std.specs.Prelude.{◌≡◌, cond, ◌≤◌, ◌<◌};
 ghost use Rattle.rules.specs.Forms.{apart as apart_of};
 ghost use Rattle.rules.specs.Still.{is_same};
@@ -9,7 +11,7 @@ ghost use Rattle.still_same.specs.Same.{detail_by, detail_at, settled, same_by, 
 
 // How far two pixels may differ and be the same: a limit of change, and, where the detail is stronger than an edge, a
 // tolerance of its strength.
-#[derive(Drop)]
+#[derive(Clone, Copy)]
 pub struct Settings {
     pub limit: f32,
     pub edge: f32,

@@ -1,0 +1,8 @@
+-- `still_same::detail` meets its contract. Assumes nothing.
+use mathlib.Core.Path.{refl}
+use Rattle.still_same.specs.Same.{detail_by}
+use Rattle.still_same.proofs.detail.Goals as goal
+
+pub returns : goal.returns
+unfolding detail_by
+returns c = refl
