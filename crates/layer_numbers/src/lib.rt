@@ -1,4 +1,6 @@
 // The stored numbers of a pixel's model: the total of its gains, and its offset.
+#![tactic(auto)]
+
 ghost use Rattle.std.specs.Prelude.{◌≡◌, [], ◌<◌, ◌≤◌, pos, nat_abs, length, get_or};
 ghost use Rattle.rules.specs.Reading.{luma_gain, luma_offset, stored_chroma};
 ghost use Rattle.layer_lent.specs.Lent.{lent, holding, lay, LumaLong, Planned, Sound, Inside};
