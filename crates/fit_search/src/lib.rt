@@ -1,4 +1,6 @@
 // What is found of a pixel's sums in three parts: the strict pick, and what it falls back to.
+#![tactic(auto)]
+
 ghost use Rattle.std.specs.Prelude.{◌≡◌, ◌||◌, []};
 ghost use Rattle.rules.specs.Window.{count, strictly_set, window as window_of};
 ghost use Rattle.calls.specs.Lent.{listed};
