@@ -10,7 +10,8 @@ loop-k-init c = (zero-le, refl)
 
 pub loop-k-preserved : goal.loop-k-preserved
 loop-k-preserved c =
-    (omega arith, more c.args.field.now c.loop-k.k c.args.least c.loop-k.most c.larger-most.result c.loop-k-test.true c.loop-k.invariant.1 (c.larger-most.ensures ∙ ap (λ (k : ℕ). max c.loop-k.most k) c.apart.ensures))
+    let p = c.loop-k in
+    (omega arith, more c.args.field.now p.k c.args.least p.most c.larger-most.result c.loop-k-test.true p.invariant.1 (c.larger-most.ensures ∙ ap (λ (k : ℕ). max p.most k) c.apart.ensures))
 
 pub returns : goal.returns
 returns c =
