@@ -1,4 +1,6 @@
 // A pixel's terms added to its sums: six of them, or two.
+#![tactic(auto)]
+
 ghost use Rattle.std.specs.Prelude.{◌≡◌, ◌+◌, ◌<◌, ◌≤◌, length};
 ghost use Rattle.calls.specs.Lent.{listed};
 ghost use Rattle.stats_add.specs.Added.{one_added, two_added, terms_added, SixOrTwo};
