@@ -29,13 +29,13 @@ pub fn four(bytes: &[u8], at: usize) -> usize
 }
 
 // Where a record begins.
-#[derive(Drop)]
+#[derive(Clone, Copy)]
 pub struct Cursor {
     pub at: usize,
 }
 
 // What begins at a cursor.
-#[derive(Drop)]
+#[derive(Clone, Copy)]
 pub enum Step {
     // A whole record, and where its payload starts.
     Whole {
@@ -76,7 +76,7 @@ impl Cursor {
 }
 
 // How many records a parcel has, if none is cut short.
-#[derive(Drop)]
+#[derive(Clone, Copy)]
 pub enum Tally {
     Cut,
     Records(usize),
@@ -104,7 +104,7 @@ pub fn count(parcel: &[u8]) -> Tally
 }
 
 // How often a kind occurs, and where the payload of the first such record lies; nowhere is 0 with length 0.
-#[derive(Drop)]
+#[derive(Clone, Copy)]
 pub struct Place {
     pub often: usize,
     pub start: usize,
