@@ -1,4 +1,6 @@
 // Where a walk stands: how many layers are due or were, whether one is due, whether it is a pair's turn; and the start.
+#![tactic(auto)]
+
 ghost use Rattle.std.specs.Prelude.{◌≡◌, ◌&&◌, true, ◌∷◌, ◌+◌, ◌%◌, ◌≤◌};
 ghost use Rattle.rules.specs.Refusals.{◌unless◌, Table, first_fitting, size_rows};
 ghost use Rattle.rules.specs.Walk.{chunks as chunks_of, chunk_of, pairs_in, is_left, is_due, is_turn, walk_size, walked, moved, walk_start_answer, walk_due};
