@@ -1,4 +1,6 @@
 // Records of a parcel, put one after another into its bytes.
+#![tactic(auto)]
+
 ghost use Rattle.std.specs.Prelude.{◌≡◌, ◌++◌, ◌+◌, ◌*◌, ◌≤◌, length};
 ghost use Rattle.rules.specs.Parcel.{in_bytes, bits as bits_of, written, record_bytes, head_bytes};
 ghost use Rattle.table.specs.Put.{Put};
@@ -47,7 +49,7 @@ fn put_row(output: &mut [u8], at: usize, numbers: &[i16], from: usize, count: us
 }
 
 // Rows of numbers in a slice: the first begins at `from`, and each a pitch behind the one before.
-#[derive(Drop)]
+#[derive(Clone, Copy)]
 pub struct Run {
     pub from: usize,
     pub pitch: usize,
