@@ -1,4 +1,6 @@
 // What a pair of frames adds to a pixel's sums.
+#![tactic(auto)]
+
 ghost use Rattle.std.specs.Prelude.{◌≡◌, cond};
 ghost use Rattle.rules.specs.Literals.{24·0};
 ghost use Rattle.rules.specs.Float.{◌≺◌};
