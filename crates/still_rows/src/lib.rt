@@ -1,11 +1,13 @@
 // A pass of hold or apply over a plane, row by row. A row is a loop of its own for each.
+#![tactic(auto)]
+
 ghost use Rattle.still_rows.specs.Rows.{hold_by, apply_by, rule_of, RowBy, RowsBy, Reads, RowAsks, PassAsks};
 ghost use Rattle.plane.specs.Slices.{slice};
 
 use still_cells::Numbers;
 
 // What is done with a plane: its bytes are weighed with the bytes of one that is kept, or two frames are mixed.
-#[derive(Drop)]
+#[derive(Clone, Copy)]
 pub enum Work {
     Hold,
     Apply,

@@ -1,0 +1,16 @@
+-- `still_rows::hold_row` meets its contract. The invariant: the first x pixels are written. Assumes nothing.
+use mathlib.Core.Path.{◌≡◌}
+use Prim.Native.Nat.{◌≤◌, ◌-◌}
+use lib.ListN.{length}
+use Rattle.still_pass.specs.Pass.{RowPainted}
+use Rattle.still_rows.specs.Rows.{hold_by}
+use Rattle.still_rows.proofs.hold_row.Given as goal
+
+abbrev pub invariant-loop-x : goal.invariant-loop-x
+invariant-loop-x l =
+    RowPainted (hold_by l.held l.mask l.numbers l.across l.down) l.numbers.output_pitch l.y l.x l.initial.output l.output
+    × (l.x ≤ l.numbers.width)
+    × (length l.output ≡ length l.initial.output)
+
+abbrev pub decreases-loop-x : goal.decreases-loop-x
+decreases-loop-x l = l.numbers.width - l.x
