@@ -1,4 +1,6 @@
 // The model that stored numbers stand for, as floats: a gain in 4096ths, an offset in 64ths.
+#![tactic(auto)]
+
 ghost use Rattle.std.specs.Prelude.{◌≡◌, ◌≤◌, pos, nat_abs};
 ghost use Rattle.rules.specs.Literals.{0·2, 64·0};
 ghost use Rattle.rules.specs.Float.{◌⊘◌, ◌≼◌, abs, signed};
