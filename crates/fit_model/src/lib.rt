@@ -2,7 +2,8 @@
 #![tactic(auto)]
 
 ghost use Rattle.std.specs.Prelude.{◌≡◌};
-ghost use Rattle.rules.specs.Model.{spread as spread_of, line as line_of, same as same_of, left as left_of, trust as trust_of, blend as blend_of, model as model_of, error as error_of, set as set_of, is_plain};
+ghost use Rattle.rules.specs.Model.{spread as spread_of, line as line_of, same as same_of, left as left_of, trust as trust_of};
+ghost use Rattle.rules.specs.Model.{blend as blend_of, model as model_of, error as error_of, set as set_of, is_plain};
 ghost use Rattle.calls.specs.Lent.{listed};
 
 use rules::{Spread, Sums};
