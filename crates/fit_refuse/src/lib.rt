@@ -1,5 +1,7 @@
 // The tests of fit: straight lines, row by row. The nine slices `sums` are luma's and those of planes 1 and 2 of the
 // previous part, of the own and of the next; `pairs` are the pairs of these parts.
+#![tactic(auto)]
+
 ghost use Rattle.std.specs.Prelude.{◌≡◌};
 ghost use Rattle.rules.specs.Forms.{Parts};
 ghost use Rattle.rules.specs.Domain.{are_sums};
@@ -10,7 +12,7 @@ ghost use Rattle.fit_refuse.specs.Call.{fit_with, fit_by, count_rows};
 use fit_trial::Settings;
 
 // The numbers of a call: luma's size, the ratio, the pairs of the three parts, and what is looked for.
-#[derive(Drop)]
+#[derive(Clone, Copy)]
 pub struct Numbers {
     pub width: usize,
     pub height: usize,
