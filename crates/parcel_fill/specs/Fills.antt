@@ -1,5 +1,5 @@
 -- What is filled: zeros, and the cells behind the offsets of plane 2.
-use Rattle.std.specs.Prelude.{◌≡◌, List, ℕ, ◌+◌, ◌*◌, ◌≤◌, ◌<◌, ℤ, pos, length}
+use Rattle.std.specs.Prelude.{◌≡◌, List, ℕ, ◌+◌, ◌*◌, ◌≤◌, ℤ, pos, length}
 use Rattle.rules.specs.Forms.{tabulate, cells}
 use Rattle.rules.specs.Host.{numbers}
 use Rattle.rules.specs.Parcel.{cell_or_zero}

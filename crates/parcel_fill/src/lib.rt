@@ -1,4 +1,6 @@
 // Slices of a layer, filled from the payloads of a parcel.
+#![tactic(auto)]
+
 ghost use Rattle.std.specs.Prelude.{◌≡◌, ◌++◌, ◌+◌, ◌*◌, ◌/◌, ◌≤◌, length, take, drop};
 ghost use Rattle.rules.specs.Host.{numbers};
 ghost use Rattle.table.specs.Put.{Put};
@@ -39,7 +41,7 @@ pub fn clear(output: &mut [i16], at: usize, count: usize)
 }
 
 // The size of a layer, and its chroma planes' columns and rows, in which its cells are laid.
-#[derive(Drop)]
+#[derive(Clone, Copy)]
 pub struct Marks {
     pub width: usize,
     pub height: usize,

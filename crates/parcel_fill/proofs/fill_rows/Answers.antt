@@ -1,0 +1,14 @@
+-- What is left of `parcel_fill::fill_rows`: the invariant at its beginning, a row's place, and one row more.
+use Rattle.std.proofs.Common.{arith}
+use native.Mathlib.Nat.{zero-mul}
+use Rattle.table.proofs.Put.{table_none}
+use Rattle.parcel_fill.specs.Fills.{mark_at}
+use Rattle.parcel_fill.proofs.Rows.{rows_put}
+use Rattle.parcel_fill.proofs.fill_rows.Goals as goal
+
+pub loop-y-init : goal.loop-y-init
+loop-y-init c = let a = c.args in (rw (zero-mul a.marks.across) (table_none (mark_at a.payload.now a.marks) a.output.now a.at), omega arith)
+
+pub loop-y-preserved : goal.loop-y-preserved
+loop-y-preserved c =
+    (rows_put c.args.payload.now c.args.marks c.loop-y.y c.loop-y.invariant.0 c.fill_row.ensures, omega arith)
