@@ -1,4 +1,6 @@
 // Empty: whether no cell of a layer is marked.
+#![tactic(auto)]
+
 ghost use Rattle.std.specs.Prelude.{◌≡◌, ◌≤◌};
 ghost use Rattle.rules.specs.Reading.{empty_answer};
 ghost use Rattle.layer_lent.specs.Lent.{lent, lay, ChromaLong, Planned};
