@@ -1,16 +1,16 @@
 -- A parcel's records by kind: six of them, each kind once, are all known. Assumes nothing.
 use mathlib.Core.Path.{◌≡◌, refl, sym, ap, ◌∙◌}
-use mathlib.Core.Bool.{Bool, true, false, cond, not, ◌&&◌}
+use mathlib.Core.Bool.{Bool, true, false, cond, ◌&&◌}
 use mathlib.Core.List.{List, [], ◌∷◌}
-use Prim.Native.Nat.{ℕ, zero, suc, ◌+◌, ◌-◌, ◌*◌, ◌≤◌, ◌<◌}
+use Prim.Native.Nat.{ℕ, zero, suc, ◌+◌, ◌-◌, ◌≤◌, ◌<◌}
 use native.Mathlib.Omega.{arith}
-use borrow.Author.Tests.{leb-true, le-leb, lt-leb, eqb-true, eq-eqb, ne_eqb}
+use borrow.Author.Tests.{leb-true, le-leb, lt-leb, eqb-true, ne_eqb}
 use lib.Dec.{eqb, leb}
-use lib.ListN.{length, get_or, take, drop, length-drop}
+use lib.ListN.{length, drop, length-drop}
 use lib.Seq.{length-take-le, get_or-take, get_or-drop}
 use Rattle.rules.specs.Forms.{turns, all, each}
 use Rattle.rules.specs.Host.{little}
-use Rattle.rules.specs.Parcel.{Record, length_at, begins_whole, first_record, records, head_first, are_known, how_often, once_each, kinds_right, payload_of, head_size, head_ratio}
+use Rattle.rules.specs.Parcel.{Record, length_at, begins_whole, first_record, records, head_first, are_known, how_often, once_each, kinds_right, payload_of}
 use Rattle.laws.proofs.Accepted.{both}
 use Rattle.parcel_records.specs.Steps.{Placed, splits}
 use Rattle.parcel_records.specs.declared.Place.{Place}

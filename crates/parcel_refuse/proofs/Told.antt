@@ -1,17 +1,16 @@
 -- What is told of a parcel, by what its tests say. Assumes nothing.
-use mathlib.Core.Path.{◌≡◌, refl, sym, ap, ◌∙◌}
-use mathlib.Core.Bool.{Bool, true, false, cond, not, ◌&&◌}
-use mathlib.Core.List.{List, [], ◌∷◌}
-use Prim.Native.Nat.{ℕ, ◌+◌, ◌<◌}
+use mathlib.Core.Path.{◌≡◌, refl, sym, ◌∙◌}
+use mathlib.Core.Bool.{Bool, true, false, cond, ◌&&◌}
+use mathlib.Core.List.{List}
+use Prim.Native.Nat.{ℕ, ◌+◌}
 use native.Mathlib.Nat.{add-zero}
 use native.Mathlib.Omega.{arith}
 use borrow.Author.Tests.{eq-eqb, ne_eqb}
-use lib.Dec.{eqb}
 use lib.ListN.{length}
 use Rattle.rules.specs.Host.{little}
 use Rattle.rules.specs.Domain.{are_sizes, is_ratio}
 use Rattle.rules.specs.Refusals.{first_fitting}
-use Rattle.rules.specs.Parcel.{records, is_whole, kinds_right, payload_of, head_size, head_ratio, are_long, lengths_right, parcel_sizes_refusal}
+use Rattle.rules.specs.Parcel.{records, is_whole, kinds_right, payload_of, are_long, lengths_right, parcel_sizes_refusal}
 use Rattle.parcel_records.specs.declared.Place.{Place}
 use Rattle.parcel_records.specs.declared.Tally.TheVariants.{Cut as CutShort, Records}
 use Rattle.parcel_records.specs.Steps.{Placed, count_of}

@@ -1,4 +1,6 @@
 // The tests of a parcel: whether its records are whole, of which kinds they are, and how long their payloads.
+#![tactic(auto)]
+
 ghost use Rattle.std.specs.Prelude.{◌≡◌, ◌&&◌, true, ◌≤◌, length};
 ghost use Rattle.rules.specs.Parcel.{records, is_whole, once_each, are_long};
 ghost use Rattle.parcel_refuse.specs.Surveys.{AllPlaced, refused_by, Surveyed};
@@ -6,7 +8,7 @@ ghost use Rattle.parcel_refuse.specs.Surveys.{AllPlaced, refused_by, Surveyed};
 use parcel_records::{Place, Tally};
 
 // Where the first record of each kind lies.
-#[derive(Drop)]
+#[derive(Clone, Copy)]
 pub struct Places {
     pub head: Place,
     pub gains: Place,
@@ -18,7 +20,7 @@ pub struct Places {
 
 // What a parcel tells before it is read: the number of its refusal, or 0, then its head's three numbers, and its
 // places.
-#[derive(Drop)]
+#[derive(Clone, Copy)]
 pub struct Contents {
     pub number: u8,
     pub width: usize,
