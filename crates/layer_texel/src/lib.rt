@@ -1,4 +1,6 @@
 // The model of a pixel, as floats.
+#![tactic(auto)]
+
 ghost use Rattle.std.specs.Prelude.{◌≡◌, ◌≤◌};
 ghost use Rattle.rules.specs.Reading.{texel as texel_of};
 ghost use Rattle.layer_lent.specs.Lent.{part, lay, Sound, Inside};

@@ -1,0 +1,20 @@
+-- `layer_texel::texel_of` meets its contract, by its callees'. Assumes nothing.
+use borrow.Author.Tests.{eqb-true, eqb-false}
+use mathlib.Core.Path.{◌∙◌}
+use mir.Syntax.{w32}
+use Rattle.layer_lent.proofs.Signed.{back}
+use Rattle.layer_texel.proofs.Models.{chroma_is}
+use Rattle.layer_texel.proofs.texel_of.Goals as goal
+
+pub luma_model-requires : goal.luma_model-requires
+luma_model-requires c =
+    (c.requires.0, c.requires.1, eqb-true _ _ (c.requires.2.luma_is ∙ c.if-luma.true))
+
+pub chroma_offset-offset-requires : goal.chroma_offset-offset-requires
+chroma_offset-offset-requires c =
+    (c.requires.0, c.requires.1, eqb-false _ _ (c.requires.2.luma_is ∙ c.if-luma.false))
+
+pub returns : goal.returns
+returns c =
+    rw (back w32 c.args.total c.ranges.total.sfits, c.chroma_offset-offset.ensures) at c.chroma_texel.ensures
+    ∙ chroma_is c.args.plan _ _ _ c.args.x c.args.y _ c.args.total c.requires.3 c.requires.2.span_is (eqb-false _ _ (c.requires.2.luma_is ∙ c.if-luma.false))
