@@ -1,5 +1,7 @@
 // What is found at a luma pixel of three lent parts, and the chroma offsets there.
 // The nine slices `sums` are luma's and those of planes 1 and 2 of the previous part, of the own and of the next.
+#![tactic(auto)]
+
 ghost use Rattle.std.specs.Prelude.{◌≡◌, ◌+◌, ◌*◌, ◌≤◌, length};
 ghost use Rattle.rules.specs.Window.{window as window_of, chroma_offset};
 ghost use Rattle.plane.specs.Slices.{slice};
