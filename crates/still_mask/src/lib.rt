@@ -1,4 +1,6 @@
 // Mask: 1 where the picture is still, 0 elsewhere. The bytes that it fills carry the passes, so it needs no others.
+#![tactic(auto)]
+
 ghost use Rattle.std.specs.Prelude.{◌≡◌, ◌/◌, length, get_or};
 ghost use Rattle.rules.specs.Forms.{tabulate};
 ghost use Rattle.rules.specs.Calls.{Settings as Given};
