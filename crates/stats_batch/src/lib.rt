@@ -1,5 +1,7 @@
 // Up to 32 pixels of a row at once. Each step is a loop of its own over arrays, so that those without a
 // branch are compiled four pixels wide.
+#![tactic(auto)]
+
 ghost use Rattle.std.specs.Prelude.{◌+◌, ◌*◌, ◌<◌, ◌≤◌, get_or};
 ghost use Rattle.std.specs.Float.{nan};
 ghost use Rattle.rules.specs.Float.{float, cut, ◌⊕◌};
@@ -13,7 +15,7 @@ use motion::{Carried, Grid};
 use rules::Taps;
 
 // How a byte plane is laid out.
-#[derive(Drop)]
+#[derive(Clone, Copy)]
 pub struct Layout {
     pub pitch: usize,
     pub width: usize,
@@ -21,7 +23,7 @@ pub struct Layout {
 }
 
 // How far each pixel moves, by the four fields, and the columns to carry on.
-#[derive(Drop)]
+#[derive(Clone, Copy)]
 pub struct Shifts {
     pub fx: [f32; 32],
     pub fy: [f32; 32],
