@@ -1,5 +1,7 @@
 // The pass of hold or apply with its work, and the smallest steps, as constants: for each work and each of these steps
 // a loop is compiled apart, with no division left.
+#![tactic(auto)]
+
 ghost use Rattle.std.specs.Prelude.{◌≡◌};
 ghost use Rattle.still_rows.specs.Rows.{rule_of, RowsBy, PassAsks};
 ghost use Rattle.still_steps.specs.Exact.{exact};
@@ -8,7 +10,7 @@ use still_cells::{Numbers, Steps};
 use still_rows::Work;
 
 // The steps that are constants: 1, 2 or 3 cells across and 1 down, 1 or 2 across and 2 down; and any other.
-#[derive(Drop)]
+#[derive(Clone, Copy)]
 pub enum Case {
     Single,
     Double,
