@@ -1,5 +1,5 @@
 -- Slices that are filled from a parcel are those of the layer that it holds. Assumes nothing.
-use mathlib.Core.Path.{◌≡◌, refl, sym, ap, ◌∙◌}
+use mathlib.Core.Path.{◌≡◌, sym, ◌∙◌}
 use mathlib.Core.List.{List, ◌++◌}
 use Prim.Native.Nat.{ℕ, ◌+◌, ◌-◌, ◌*◌, ◌/◌, ◌≤◌}
 use native.Mathlib.Nat.{mul-le-mul, mul_comm}
@@ -7,16 +7,16 @@ use native.Mathlib.Omega.{arith}
 use lib.IntN.{ℤ, pos}
 use lib.ListN.{length, take, drop, length-append, length-drop}
 use lib.Seq.{length-take-le}
-use Rattle.rules.specs.Forms.{tabulate, cells}
+use Rattle.rules.specs.Forms.{cells}
 use Rattle.rules.specs.Host.{entry, numbers}
-use Rattle.rules.specs.Parcel.{cell_or_zero, layer_read}
+use Rattle.rules.specs.Parcel.{layer_read}
 use Rattle.laws.proofs.Lists.{length-tabulate}
 use Rattle.table.specs.Put.{Put}
-use Rattle.table.proofs.Put.{put_as, put_join, put_whole}
+use Rattle.table.proofs.Put.{put_join, put_whole}
 use Rattle.parcel_fill.specs.declared.Marks.{Marks}
 use Rattle.parcel_fill.specs.Fills.{zeros, mark_at, mark_rows, MarksFit}
 use Rattle.parcel_refuse.specs.declared.Contents.{Contents}
-use Rattle.parcel_read.specs.Read.{points_of, Lies, Opened}
+use Rattle.parcel_read.specs.Read.{points_of, Opened}
 
 -- ---- how many there are
 

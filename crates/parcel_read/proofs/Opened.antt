@@ -1,17 +1,17 @@
 -- What is known of a parcel that is not refused, and of its reader's refusal. Assumes nothing.
-use mathlib.Core.Path.{◌≡◌, refl, sym, ap, ◌∙◌}
+use mathlib.Core.Path.{◌≡◌, refl, sym, ◌∙◌}
 use mathlib.Core.Bool.{Bool, true, false, cond, not, ◌&&◌}
-use mathlib.Core.List.{List, [], ◌∷◌}
-use Prim.Native.Nat.{ℕ, ◌+◌, ◌*◌, ◌/◌, ◌≤◌}
+use mathlib.Core.List.{List, []}
+use Prim.Native.Nat.{ℕ, ◌+◌, ◌*◌}
 use native.Mathlib.Omega.{arith}
-use borrow.Author.Tests.{eq-eqb, ne_eqb, eqb-true}
+use borrow.Author.Tests.{ne_eqb, eqb-true}
 use lib.Dec.{eqb}
 use lib.IntN.{ℤ}
-use lib.ListN.{length, take, drop}
+use lib.ListN.{length}
 use Rattle.rules.specs.declared.Sizes.{Sizes}
 use Rattle.rules.specs.Forms.{turns, all, cells, uncounted}
 use Rattle.rules.specs.Domain.{are_sizes, is_ratio, is_fit}
-use Rattle.rules.specs.Refusals.{◌unless◌, first_fitting, parcel_rows}
+use Rattle.rules.specs.Refusals.{parcel_rows}
 use Rattle.rules.specs.Parcel.{records, is_whole, kinds_right, payload_of, head_size, head_ratio, is_head, are_long, lengths_right, layer_read, parcel_size, parcel_ratio, parcel_sizes_refusal, parcel_read_refusal, parcel_sizes_answer}
 use Rattle.rules.specs.Host.{word}
 use Rattle.calls.specs.Lent.{fit_of}
@@ -20,7 +20,7 @@ use Rattle.table.proofs.Refusals.{late}
 use Rattle.parcel_records.specs.declared.Place.{Place}
 use Rattle.parcel_records.specs.Steps.{Placed}
 use Rattle.parcel_refuse.specs.declared.Contents.{Contents}
-use Rattle.parcel_refuse.specs.Surveys.{AllPlaced, Surveyed}
+use Rattle.parcel_refuse.specs.Surveys.{Surveyed}
 use Rattle.parcel_refuse.proofs.Known.{payload_long}
 use Rattle.parcel_read.specs.Read.{points_of, Lies, Opened, refusal_by, sizes_by, read_by, ReadTold}
 

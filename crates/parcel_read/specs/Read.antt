@@ -1,5 +1,5 @@
 -- What is known of a parcel that is not refused; a call of the reader by what it is lent, and what the reader tells.
-use Rattle.std.specs.Prelude.{◌≡◌, Bool, cond, not, ◌&&◌, List, ℕ, ◌+◌, ◌*◌, ◌/◌, ◌≤◌, eqb, ℤ, length, take, drop}
+use Rattle.std.specs.Prelude.{◌≡◌, cond, not, ◌&&◌, List, ℕ, ◌+◌, ◌*◌, ◌/◌, ◌≤◌, eqb, ℤ, length, take, drop}
 use Rattle.rules.specs.declared.Sizes.{Sizes}
 use Rattle.rules.specs.Forms.{cells}
 use Rattle.rules.specs.Calls.{ParcelReadCall}

@@ -1,4 +1,6 @@
 // The reader of parcels: the slices of a layer, filled from its records; and a parcel's sizes alone.
+#![tactic(auto)]
+
 ghost use Rattle.std.specs.Prelude.{◌≡◌, ◌*◌, ◌/◌, length};
 ghost use Rattle.rules.specs.Parcel.{layer_read, parcel_sizes_answer};
 ghost use Rattle.parcel_read.specs.Read.{read_by, sizes_by, refusal_by, points_of, Opened, ReadTold};
