@@ -1,4 +1,6 @@
 // The keeping pass: which of the found models stay, and which cells they mark.
+#![tactic(auto)]
+
 ghost use Rattle.std.specs.Prelude.{◌≡◌, ◌*◌, ◌<◌, ◌≤◌, length, replicate};
 ghost use Rattle.rules.specs.Forms.{turns, scan_row, scan};
 ghost use Rattle.rules.specs.Assembly.{model_slice};
