@@ -1,4 +1,6 @@
 // What lies under a layer at a pixel. At whole points nothing is cut or mixed.
+#![tactic(auto)]
+
 ghost use Rattle.std.specs.Prelude.{◌≡◌, ◌/◌, ◌<◌, ◌≤◌};
 ghost use Rattle.rules.specs.Float.{float};
 ghost use Rattle.rules.specs.Reading.{at, texel};
@@ -12,7 +14,7 @@ use layer_lent::Plan;
 use rules::{Ring, Scene};
 
 // One of a ring's three rows, by number: which row of the plane it is, around which column, and how far its points lie.
-#[derive(Drop)]
+#[derive(Clone, Copy)]
 struct Band {
     x: usize,
     row: usize,

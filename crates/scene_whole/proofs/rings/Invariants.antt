@@ -1,0 +1,22 @@
+-- The invariant of `scene_whole::rings`: what is filled is the mean of the first ring from here on that has any.
+use mathlib.Core.Path.{◌≡◌}
+use Prim.Native.Nat.{◌-◌, ◌≤◌}
+use Rattle.rules.specs.declared.Scene.TheVariants.{Raw}
+use Rattle.rules.specs.Float.{float}
+use Rattle.rules.specs.Scene.{filled}
+use Rattle.layer_lent.specs.Lent.{lay}
+use Rattle.scene_whole.specs.Rings.{means}
+use Rattle.scene_whole.proofs.rings.Given as goal
+
+abbrev pub invariant-loop-times : goal.invariant-loop-times
+invariant-loop-times l =
+    (filled (lay l.plan.shape l.numbers l.bytes) l.plan.shape.plane (record { bytes = l.raw; pitch = l.pitch })
+    (float l.x) (float l.y) (Raw l.value)
+    ≡ means (lay l.plan.shape l.numbers l.bytes) l.plan.shape.plane (record { bytes = l.raw; pitch = l.pitch })
+    (l.plan.across, l.plan.down) l.x l.y l.radius (4 - l.times) (Raw l.value))
+    × (1 ≤ l.times)
+    × (l.times ≤ 4)
+    × (l.radius ≤ 4)
+
+abbrev pub decreases-loop-times : goal.decreases-loop-times
+decreases-loop-times l = 4 - l.times
