@@ -1,4 +1,6 @@
 // The writer of parcels: a layer as six records, one after another.
+#![tactic(auto)]
+
 ghost use Rattle.std.specs.Prelude.{◌≡◌, true, false, ◌+◌, ◌*◌, eqb, take, drop};
 ghost use Rattle.rules.specs.Domain.{are_sizes, parcel_length};
 ghost use Rattle.rules.specs.Refusals.{parcel_write_refusal};

@@ -1,0 +1,22 @@
+-- What is left of `parcel_write::put_chroma`: the cells lie within their slice, and the three records are put.
+use Rattle.std.proofs.Common.{◌∙◌, arith}
+use Rattle.parcel_write.proofs.Fits.{cells_fit}
+use Rattle.parcel_write.proofs.Layers.{chroma-put}
+use Rattle.parcel_write.proofs.put_chroma.Goals as goal
+
+pub put_record-requires : goal.put_record-requires
+put_record-requires c =
+    let a = c.args in
+    let at = c.requires.1 in
+    let next = c.put_record-after.ensures.0 in
+    let last = c.put_record-after-2.ensures.0 in
+    let same = c.put_record-after-2.ensures.1.long ∙ c.put_record-after.ensures.1.long in
+    cells_fit a.shape a.numbers a.parcel.now _ c.requires.0 same _ _ c.divided.ensures c.divided-rows.ensures _ _ _
+    (omega arith) c.cells.ensures c.cells-2.ensures
+
+pub returns : goal.returns
+returns c =
+    let one = c.put_record-after.ensures in
+    let two = c.put_record-after-2.ensures in
+    chroma-put c.args.shape c.args.numbers _ _ _ _ c.divided.ensures c.divided-rows.ensures c.cells.ensures c.cells-2.ensures _ _
+    one.1 one.0 two.1 two.0 c.put_record.ensures.1
