@@ -1,4 +1,6 @@
 // Hold: a plane's bytes weighed with the bytes that are kept, by a mask.
+#![tactic(auto)]
+
 ghost use Rattle.std.specs.Prelude.{◌≡◌};
 ghost use Rattle.rules.specs.Refusals.{hold_refusal};
 ghost use Rattle.rules.specs.Still.{hold_leaves};
