@@ -1,4 +1,6 @@
 // The refusals of stats.
+#![tactic(auto)]
+
 ghost use Rattle.std.specs.Prelude.{◌≡◌, ◌&&◌, true};
 ghost use Rattle.rules.specs.Domain.{is_pitch, is_plane};
 ghost use Rattle.rules.specs.Forms.{absent};
@@ -11,7 +13,7 @@ use motion::Grid;
 
 // The numbers of a call: the pairs before, luma's size and the ratio, the pitches of each frame's
 // planes, and what the motion is laid out by.
-#[derive(Drop)]
+#[derive(Clone, Copy)]
 pub struct Numbers {
     pub pairs: usize,
     pub width: usize,
