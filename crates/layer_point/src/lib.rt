@@ -1,4 +1,6 @@
 // A layer's model at a point, by the columns and rows around it.
+#![tactic(auto)]
+
 ghost use Rattle.std.specs.Prelude.{◌≡◌, ◌+◌, ◌<◌, pos, length, get_or};
 ghost use Rattle.rules.specs.Reading.{mix_models, luma_texel, texel as texel_of};
 ghost use Rattle.layer_lent.specs.Lent.{lay};

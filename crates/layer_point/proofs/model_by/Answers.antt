@@ -1,0 +1,12 @@
+-- `layer_point::model_by` meets its contract, by its callees'. Assumes nothing.
+use Rattle.layer_point.proofs.Points.{luma_fits, luma_is, same_point}
+use Rattle.layer_point.proofs.model_by.Goals as goal
+
+pub luma_by-requires : goal.luma_by-requires
+luma_by-requires c =
+    (rw c.place-shift.ensures (luma_fits _ c.args.numbers c.args.bytes c.requires.0 c.if-plan-eq0.true), c.requires.1)
+
+pub returns-then-plan-eq0 : goal.returns-then-plan-eq0
+returns-then-plan-eq0 c =
+    let zero = c.if-plan-eq0.true in
+    rw (c.luma_by.ensures, c.place-shift.ensures) (same_point _ _ _ _ (luma_is _ c.args.numbers c.args.bytes c.requires.0 zero))
