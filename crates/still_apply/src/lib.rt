@@ -1,4 +1,6 @@
 // Apply: two frames mixed where a mask says that the picture is still.
+#![tactic(auto)]
+
 ghost use Rattle.std.specs.Prelude.{◌≡◌};
 ghost use Rattle.rules.specs.Refusals.{apply_refusal};
 ghost use Rattle.rules.specs.Still.{apply_leaves};
