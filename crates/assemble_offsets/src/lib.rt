@@ -1,4 +1,6 @@
 // The totals of chroma offsets: each summed whole, and held once.
+#![tactic(auto)]
+
 ghost use Rattle.std.specs.Prelude.{◌≡◌, ◌+◌, ◌*◌, ◌<◌, length};
 ghost use Rattle.rules.specs.Assembly.{stored_offset, stored_total, model_slice, chroma_total};
 ghost use Rattle.assemble_offsets.specs.Sizes.{Formed, ModelsLong, term_of, row_total, RowFits, Block};
@@ -6,7 +8,7 @@ ghost use Rattle.assemble_offsets.specs.Sizes.{Formed, ModelsLong, term_of, row_
 use rules::Offset;
 
 // Luma's width and height, the ratio, and chroma's width and height.
-#[derive(Drop)]
+#[derive(Clone, Copy)]
 pub struct Sizes {
     pub width: usize,
     pub height: usize,
