@@ -1,4 +1,6 @@
 // What peel and unpeel do to one pixel: they write the same ones.
+#![tactic(auto)]
+
 ghost use Rattle.std.specs.Prelude.{◌≡◌, true};
 ghost use Rattle.rules.specs.Literals.{0·0};
 ghost use Rattle.rules.specs.Float.{◌≼◌, float, pixel};
