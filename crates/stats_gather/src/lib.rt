@@ -1,4 +1,6 @@
 // The sums of one plane, with a pair of frames added.
+#![tactic(auto)]
+
 ghost use Rattle.std.specs.Prelude.{◌≡◌, ◌+◌, ◌*◌, ◌<◌, ◌≤◌, length};
 ghost use Rattle.stats_add.specs.Added.{SixOrTwo};
 ghost use Rattle.stats_gather.specs.Sums.{run_added, row_added, all_added, lane_of, Room, Gathers, pass_of, Started, RowPart, RunDone, Length};
@@ -9,7 +11,7 @@ use stats_batch::Layout;
 
 // How a plane is added: how many sums a pixel has, the pairs before, the plane's size and ratio, its
 // pitch in both frames, and what the motion is laid out by.
-#[derive(Drop)]
+#[derive(Clone, Copy)]
 pub struct Task {
     pub many: usize,
     pub pairs: usize,
@@ -23,7 +25,7 @@ pub struct Task {
 
 // Where a run of pixels begins: its column and row, and the place of its sums. How many they are is passed beside it,
 // so that loops over them are known to be short.
-#[derive(Drop)]
+#[derive(Clone, Copy)]
 pub struct Run {
     pub place: usize,
     pub x: usize,
