@@ -1,21 +1,21 @@
 -- Where a walk's call is accepted, so is what it is made of: stats on the part of the pair's chunk, fit on the parts of
 -- the layer's. Assumes nothing.
-use mathlib.Core.Path.{◌≡◌, refl, sym, ◌∙◌}
+use mathlib.Core.Path.{◌≡◌, refl}
 use mathlib.Core.Bool.{Bool, true, false, cond, ◌&&◌, ◌||◌}
 use mathlib.Core.List.{List, [], ◌∷◌}
-use Prim.Native.Nat.{ℕ, zero, suc, ◌+◌, ◌-◌, ◌*◌, ◌/◌, ◌%◌, ◌≤◌, ◌<◌, min}
+use Prim.Native.Nat.{ℕ, zero, suc, ◌+◌, ◌-◌, ◌*◌, ◌%◌, ◌<◌}
 use native.Mathlib.Omega.{arith}
-use borrow.Author.Tests.{leb-true, le-leb}
+use borrow.Author.Tests.{le-leb}
 use lib.Dec.{leb, ltb, eqb}
 use lib.ListN.{length, get_or}
 use Rattle.rules.specs.declared.Walk.{Walk}
 use Rattle.rules.specs.Forms.{Slot, Part, each, absent, shrunk}
 use Rattle.rules.specs.Literals.{0·0, 0·5, 255·0, 65536·0}
 use Rattle.rules.specs.Float.{within}
-use Rattle.rules.specs.Calls.{StatsCall, FitCall, WalkPairCall, WalkLayerCall}
+use Rattle.rules.specs.Calls.{StatsCall, WalkPairCall, WalkLayerCall}
 use Rattle.rules.specs.Domain.{kept_length, are_sizes, is_ratio, have_pitches, have_lengths, are_sums, are_slots, is_fit, are_models, is_cover, motion_lengths, motion_numbers}
 use Rattle.rules.specs.Refusals.{◌unless◌, Table, first_fitting, size_rows, is_neighbour, lumas, chromas, pair_rows, work_rows, stats_refusal, fit_refusal}
-use Rattle.rules.specs.Walk.{chunks, chunk_of, pairs_in, is_due, is_left, is_turn, slot, part_in, around, walk_size, pair_stats, walk_pair_refusal, layer_fit, walk_layer_refusal}
+use Rattle.rules.specs.Walk.{chunks, chunk_of, pairs_in, is_due, is_left, is_turn, part_in, around, walk_size, pair_stats, walk_pair_refusal, layer_fit, walk_layer_refusal}
 use Rattle.laws.proofs.Accepted.{both, row_right, numbered}
 use Rattle.walk_laws.proofs.Due.{Due, due_in, Turn, turn_in}
 

@@ -10,7 +10,7 @@ use Rattle.rules.specs.declared.Trial.TheVariants.{All, PreviousOwn, OwnNext}
 use Rattle.rules.specs.Forms.{Slot, Part, Parts, part, area}
 use Rattle.rules.specs.Calls.{FitCall}
 use Rattle.rules.specs.Refusals.{fit_refusal}
-use Rattle.rules.specs.Window.{total, tried, best, own_same, pick, window, chroma_at, chroma_offset, fitted}
+use Rattle.rules.specs.Window.{total, tried, best, own_same, pick, window, chroma_offset, fitted}
 use Rattle.rules.specs.Fit.{rough, fit_models, fit_cover, fit_leaves}
 use Rattle.calls.specs.Lent.{parts_of, fit_call}
 use Rattle.laws.proofs.Lists.{table_same}
