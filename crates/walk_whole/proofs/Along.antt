@@ -2,20 +2,20 @@
 use mathlib.Core.Path.{◌≡◌, refl, sym, subst, ◌∙◌}
 use mathlib.Core.Bool.{Bool, true, false, cond}
 use mathlib.Core.List.{List, [], ◌∷◌, ◌++◌, append-nil, append_assoc}
-use Prim.Native.Nat.{ℕ, zero, suc, ◌+◌, ◌-◌, ◌*◌, ◌/◌, ◌%◌, ◌≤◌, ◌<◌}
+use Prim.Native.Nat.{ℕ, suc, ◌+◌, ◌*◌, ◌/◌, ◌%◌, ◌≤◌, ◌<◌}
 use native.Mathlib.Nat.{add-zero, add_assoc}
 use native.Mathlib.Omega.{arith}
 use borrow.Author.Tests.{eqb-true, eqb-false}
 use lib.Dec.{eqb}
-use lib.ListN.{length, get_or, set, length-append, length-set}
+use lib.ListN.{length, length-append, length-set}
 use lib.Seq.{get_or-set_same, get_or-set_other}
 use Rattle.rules.specs.declared.Walk.{Walk}
-use Rattle.rules.specs.Forms.{Pair, Slot, Part, part, absent}
+use Rattle.rules.specs.Forms.{Pair, Slot, Part, part}
 use Rattle.rules.specs.Calls.{WalkPairCall}
 use Rattle.rules.specs.Stats.{stats_sums}
-use Rattle.rules.specs.Walk.{chunk_of, pairs_in, slot, part_in, walk_size, moved, pair_stats, walk_pair_refusal, pair_slots, walk_layer_refusal}
+use Rattle.rules.specs.Walk.{pairs_in, slot, walk_size, moved, pair_stats, walk_pair_refusal, pair_slots, walk_layer_refusal}
 use Rattle.calls.specs.Lent.{walk_pair_call}
-use Rattle.walk_whole.specs.Calls.{Stand, Asked, Call, pair_call, layer_call, handed, taken, after, after_all, given, clip, one, layers}
+use Rattle.walk_whole.specs.Calls.{Stand, Asked, Call, pair_call, layer_call, taken, after, after_all, given, clip, one, layers}
 use Rattle.walk_whole.specs.Whole.{whole_part}
 use Rattle.walk_whole.proofs.Chunks.{afresh, part_last, part-before, part_none}
 

@@ -1,10 +1,10 @@
 -- Chunks of a clip that grows, and the parts of them. Assumes nothing.
-use mathlib.Core.Path.{◌≡◌, refl, sym, ap, ◌∙◌}
+use mathlib.Core.Path.{◌≡◌, refl, ◌∙◌}
 use mathlib.Core.List.{List, [], ◌∷◌, ◌++◌}
-use Prim.Native.Nat.{ℕ, suc, ◌+◌, ◌-◌, ◌*◌, ◌≤◌, ◌<◌}
+use Prim.Native.Nat.{ℕ, ◌+◌, ◌-◌, ◌*◌, ◌≤◌, ◌<◌}
 use native.Mathlib.Omega.{arith}
-use lib.ListN.{length, take, drop, length-append, length-take, length-drop}
-use lib.Seq.{take_all, take-nil, take-append-le, drop-append-le}
+use lib.ListN.{length, drop, length-append, length-take, length-drop}
+use lib.Seq.{take_all, take-append-le, drop-append-le}
 use Rattle.rules.specs.Forms.{Pair, Part, Slot, absent, part}
 use Rattle.rules.specs.Stats.{added, stats_sums}
 use Rattle.rules.specs.Walk.{pairs_in}

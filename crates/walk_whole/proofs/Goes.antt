@@ -1,6 +1,6 @@
 -- Every walk can go on. Assumes nothing.
-use mathlib.Core.Path.{◌≡◌, refl, sym, ap, ◌∙◌}
-use mathlib.Core.Bool.{Bool, true, false, cond, not, ◌&&◌, false≢true}
+use mathlib.Core.Path.{◌≡◌, refl, sym, ◌∙◌}
+use mathlib.Core.Bool.{Bool, true, false, cond, false≢true}
 use mathlib.Core.Logic.{◌⊎◌, inl, inr}
 use mathlib.Core.List.{List, [], ◌∷◌}
 use Prim.Native.Nat.{ℕ, zero, suc, ◌+◌, ◌-◌, ◌*◌, ◌%◌, ◌≤◌, ◌<◌}
@@ -10,19 +10,19 @@ use lib.Dec.{leb, eqb}
 use lib.ListN.{length, set, length-set}
 use lib.Ieee.{Float}
 use Rattle.rules.specs.declared.Walk.{Walk}
-use Rattle.rules.specs.Forms.{Plane, Motion, Pair, Slot, each, shrunk, area}
+use Rattle.rules.specs.Forms.{Plane, Motion, Pair, each, area}
 use Rattle.rules.specs.Literals.{0·0, 0·5, 255·0, 65536·0}
 use Rattle.rules.specs.Float.{within}
-use Rattle.rules.specs.Calls.{WalkPairCall, WalkLayerCall}
+use Rattle.rules.specs.Calls.{WalkPairCall}
 use Rattle.rules.specs.Domain.{sums_length, chroma_sums_length, kept_length, are_exact, are_sizes, is_ratio, are_slots, is_fit, are_models, is_cover}
-use Rattle.rules.specs.Refusals.{◌unless◌, first_fitting, pair_rows, work_rows}
+use Rattle.rules.specs.Refusals.{first_fitting, pair_rows, work_rows}
 use Rattle.rules.specs.Stats.{added, stats_sums}
-use Rattle.rules.specs.Walk.{chunks, chunk_of, is_ready, is_due, is_left, is_turn, walk_size, moved, started, walk_start_refusal, pair_stats, walk_pair_refusal, pair_slots, layer_fit, walk_layer_refusal}
+use Rattle.rules.specs.Walk.{chunks, chunk_of, is_due, is_left, is_turn, walk_size, moved, started, walk_start_refusal, pair_stats, walk_pair_refusal, pair_slots, layer_fit, walk_layer_refusal}
 use Rattle.laws.proofs.Accepted.{both, row_right}
 use Rattle.laws.proofs.Lists.{length-tabulate}
-use Rattle.walk_laws.proofs.Due.{Ready, ready_in, ready_out, Left, left_in, left_out}
+use Rattle.walk_laws.proofs.Due.{Ready, ready_in, ready_out, Left, left_out}
 use Rattle.walk_laws.proofs.Accepted.{pair_right, one_row, turn}
-use Rattle.walk_whole.specs.Calls.{Stand, Asked, Call, pair_call, layer_call, handed, taken, begin, after, after_all}
+use Rattle.walk_whole.specs.Calls.{Stand, Asked, Call, pair_call, layer_call, handed, taken, after, after_all}
 use Rattle.walk_whole.specs.Whole.{GoesOn, EachGoesOn}
 
 -- ---- what holds along a walk

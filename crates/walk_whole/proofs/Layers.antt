@@ -3,22 +3,22 @@ use mathlib.Core.Path.{◌≡◌, refl, sym, subst, ◌∙◌}
 use mathlib.Core.Bool.{Bool, true, false, cond, false≢true}
 use mathlib.Core.Logic.{◌⊎◌, inl, inr}
 use mathlib.Core.List.{List, [], ◌∷◌, ◌++◌, append-nil, append_assoc}
-use Prim.Native.Nat.{ℕ, zero, suc, ◌+◌, ◌-◌, ◌*◌, ◌≤◌, ◌<◌}
+use Prim.Native.Nat.{ℕ, ◌+◌, ◌-◌, ◌*◌, ◌≤◌, ◌<◌}
 use native.Mathlib.Nat.{zero-add}
 use native.Mathlib.Omega.{arith}
-use borrow.Author.Tests.{ltb-true, eqb-true, eqb-false}
+use borrow.Author.Tests.{ltb-true, eqb-true}
 use lib.Dec.{ltb, eqb}
 use lib.ListN.{length}
 use Rattle.rules.specs.declared.Walk.{Walk}
-use Rattle.rules.specs.Forms.{Pair, Slot, Part, Parts, absent}
-use Rattle.rules.specs.Calls.{WalkPairCall, WalkLayerCall}
+use Rattle.rules.specs.Forms.{Pair, Slot, Part, absent}
+use Rattle.rules.specs.Calls.{WalkPairCall}
 use Rattle.rules.specs.Domain.{are_sizes}
-use Rattle.rules.specs.Walk.{chunks, part_in, around, walk_size, moved, started, walk_start_refusal, walk_pair_refusal, pair_slots, layer_fit, walk_layer_refusal, walk_layer_leaves}
+use Rattle.rules.specs.Walk.{chunks, part_in, around, walk_size, moved, started, walk_start_refusal, walk_pair_refusal, pair_slots, walk_layer_refusal, walk_layer_leaves}
 use Rattle.calls.specs.Lent.{walk_pair_call}
 use Rattle.laws.proofs.Accepted.{row_right}
 use Rattle.walk_laws.proofs.Due.{Due}
 use Rattle.walk_laws.proofs.Accepted.{turn, due, fit_right}
-use Rattle.walk_whole.specs.Calls.{Stand, Asked, Call, pair_call, layer_call, taken, begin, after, after_all, given, clip, layers}
+use Rattle.walk_whole.specs.Calls.{Stand, Asked, Call, pair_call, layer_call, taken, after, after_all, given, clip, layers}
 use Rattle.walk_whole.specs.Whole.{whole_part, whole_fit, Same, EachLayer}
 use Rattle.walk_whole.proofs.Chunks.{part-before}
 use Rattle.walk_whole.proofs.Along.{Holds, Along, along_all}
