@@ -6,7 +6,7 @@ use Prim.Native.Nat.{ℕ, ◌+◌, ◌*◌, ◌/◌, ◌%◌, ◌≤◌}
 use native.Mathlib.Omega.{arith}
 use borrow.Author.Tests.{leb-true}
 use lib.Dec.{leb}
-use Rattle.rules.specs.Forms.{Fit, Layer, each, answer}
+use Rattle.rules.specs.Forms.{Fit, Layer, each}
 use Rattle.rules.specs.Calls.{FitCall}
 use Rattle.rules.specs.Refusals.{Table, first_fitting, peel_refusal, unpeel_refusal, render_refusal, fit_refusal}
 use Rattle.rules.specs.Fit.{fit_leaves}
