@@ -1,4 +1,6 @@
 // What render decides at a pixel: whether it is written, and what is taken from the two frames.
+#![tactic(auto)]
+
 ghost use Rattle.std.specs.Prelude.{◌≡◌, cond, not, ◌≤◌, ◌^◌};
 ghost use Rattle.rules.specs.Scene.{is_lifted};
 ghost use Rattle.rules.specs.Render.{timed as timed_of, reach as reach_of, is_on, exchanged as exchanged_of, chosen as chosen_of, between as between_of};
