@@ -1,4 +1,6 @@
 // The numbers of a layer, stored pixel by pixel.
+#![tactic(auto)]
+
 ghost use Rattle.std.specs.Prelude.{◌≡◌, cond, ◌&&◌, ◌+◌, ◌*◌, ◌<◌, ◌≤◌, ltb, get_or};
 ghost use Rattle.rules.specs.Assembly.{stored_gain, luma_entry, model_slice, assembled};
 ghost use Rattle.assemble_offsets.specs.Sizes.{Formed, Block};
