@@ -1,4 +1,4 @@
--- `still_apply::apply` meets its contract. Assumes nothing.
+-- What is asked of the pass follows from the tests, and its rule by these steps is apply's.
 use mathlib.Core.Path.{sym, ◌∙◌}
 use Rattle.still_pass.proofs.Pass.{ran}
 use Rattle.still_apply.proofs.Runs.{rule_is, runs}

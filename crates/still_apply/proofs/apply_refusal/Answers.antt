@@ -1,4 +1,4 @@
--- `still_apply::apply_refusal` meets its contract. Assumes nothing.
+-- The tests are the rows of the table, in its order.
 use Rattle.rules.specs.Forms.{each}
 use Rattle.rules.specs.Refusals.{apply_refusal, first_fitting}
 use Rattle.still_apply.proofs.apply_refusal.Goals as goal

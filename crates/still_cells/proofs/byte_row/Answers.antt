@@ -1,4 +1,4 @@
--- `still_cells::byte_row` meets its contract. Assumes nothing.
+-- A row of a pixel's cells is a run of bytes.
 use mathlib.Core.Path.{◌≡◌, refl, ◌∙◌}
 use mathlib.Core.List.{List}
 use Prim.Native.Nat.{ℕ, zero, suc, ◌+◌, ◌*◌}

@@ -1,4 +1,4 @@
--- `still_cells::byte_sum` meets its contract. The invariant: the first dy rows are added. Assumes nothing.
+-- The invariant of `still_cells::byte_sum`: the first dy rows are added.
 use mathlib.Core.Path.{◌≡◌}
 use Prim.Native.Nat.{◌*◌, ◌≤◌, ◌-◌}
 use Rattle.still_cells.specs.Cells.{sum_of}

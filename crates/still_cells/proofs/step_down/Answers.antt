@@ -1,4 +1,4 @@
--- `still_cells::step_down` meets its contract. Assumes nothing.
+-- A division by two sides in turn is one by their product.
 use native.Mathlib.Nat.{div-div-eq-div-mul}
 use Rattle.still_cells.proofs.step_down.Goals as goal
 

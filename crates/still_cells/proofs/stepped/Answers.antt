@@ -1,4 +1,4 @@
--- `still_cells::stepped` meets its contract. Assumes nothing.
+-- The tests of remainders are the tests of whole steps.
 use lib.ListN.{length}
 use Rattle.still_cells.proofs.Whole.{exact, exact_both}
 use Rattle.still_cells.proofs.stepped.Goals as goal

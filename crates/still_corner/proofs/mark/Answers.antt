@@ -1,4 +1,4 @@
--- `still_corner::mark` meets its contract. Assumes nothing.
+-- The four corners are those of `mark_of`.
 use Rattle.still_corner.specs.Corner.{mark_of}
 use Rattle.still_corner.proofs.mark.Goals as goal
 

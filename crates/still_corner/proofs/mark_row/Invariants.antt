@@ -1,5 +1,4 @@
--- `still_corner::mark_row` meets its contract. The invariant: the first x pixels have both bits, and two columns are
--- held. Assumes nothing.
+-- The invariant of `still_corner::mark_row`: the first x pixels have both bits, and two columns are held.
 use mathlib.Core.Path.{◌≡◌}
 use mathlib.Core.Bool.{Bool}
 use Prim.Native.Nat.{ℕ, ◌-◌, ◌≤◌}

@@ -1,4 +1,4 @@
--- `still_corner::mark_rows` meets its contract. The invariant: the first y rows have both bits. Assumes nothing.
+-- The invariant of `still_corner::mark_rows`: the first y rows have both bits.
 use mathlib.Core.Path.{◌≡◌}
 use mathlib.Core.Bool.{Bool}
 use Prim.Native.Nat.{ℕ, ◌-◌, ◌≤◌}

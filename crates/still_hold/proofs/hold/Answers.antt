@@ -1,4 +1,4 @@
--- `still_hold::hold` meets its contract. Assumes nothing.
+-- What is asked of the pass follows from the tests, and its rule by these steps is hold's.
 use mathlib.Core.Path.{sym, ◌∙◌}
 use Rattle.still_pass.proofs.Pass.{ran}
 use Rattle.still_hold.proofs.Runs.{rule_is, runs}

@@ -1,4 +1,4 @@
--- `still_mask::halve` meets its contract. The invariant: the first k bytes are halved. Assumes nothing.
+-- The invariant of `still_mask::halve`: the first k bytes are halved.
 use mathlib.Core.Path.{◌≡◌}
 use Prim.Native.Nat.{◌-◌, ◌/◌, ◌≤◌}
 use lib.ListN.{length, get_or}

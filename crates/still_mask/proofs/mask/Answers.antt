@@ -1,4 +1,4 @@
--- `still_mask::mask` meets its contract. Assumes nothing.
+-- What is asked of the first two passes follows from the tests, and the third leaves the answer.
 use mathlib.Core.Path.{sym, ◌∙◌}
 use Rattle.calls.specs.Lent.{plane_of}
 use Rattle.still_pass.proofs.Pass.{ran}

@@ -1,4 +1,4 @@
--- `still_mask::mask_refusal` meets its contract. Assumes nothing.
+-- The tests are the rows of the table, in its order.
 use Rattle.rules.specs.Forms.{each}
 use Rattle.rules.specs.Refusals.{mask_refusal, first_fitting}
 use Rattle.still_mask.proofs.mask_refusal.Goals as goal

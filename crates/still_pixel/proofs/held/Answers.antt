@@ -1,4 +1,4 @@
--- `still_pixel::held` meets its contract. Assumes nothing.
+-- A pixel of full sum stays, passed over or weighed.
 use mathlib.Core.Path.{sym, ◌∙◌}
 use Prim.Native.Nat.{◌*◌}
 use native.Mathlib.Omega.{arith}

@@ -1,4 +1,4 @@
--- `still_pixel::weighed` meets its contract. Assumes nothing.
+-- The products fit, and what is left of them after the division is a byte.
 use mathlib.Core.Path.{refl}
 use native.Mathlib.Omega.{arith}
 use Rattle.rules.specs.Still.{weighed}

@@ -1,4 +1,4 @@
--- `still_rows::hold_row` meets its contract. The invariant: the first x pixels are written. Assumes nothing.
+-- The invariant of `still_rows::hold_row`: the first x pixels are written.
 use mathlib.Core.Path.{◌≡◌}
 use Prim.Native.Nat.{◌≤◌, ◌-◌}
 use lib.ListN.{length}

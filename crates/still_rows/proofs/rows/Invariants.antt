@@ -1,4 +1,4 @@
--- `still_rows::rows` meets its contract. The invariant: the first y rows are written. Assumes nothing.
+-- The invariant of `still_rows::rows`: the first y rows are written.
 use mathlib.Core.Path.{◌≡◌}
 use Prim.Native.Nat.{◌≤◌, ◌-◌}
 use lib.ListN.{length}

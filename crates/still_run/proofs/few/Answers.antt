@@ -1,4 +1,4 @@
--- `still_run::few` meets its contract. Assumes nothing.
+-- The run is two bytes, and the rest.
 use Rattle.still_run.proofs.Split.{parts}
 use Rattle.still_run.proofs.few.Goals as goal
 

@@ -1,4 +1,4 @@
--- `still_run::four` meets its contract. Assumes nothing.
+-- Four bytes are two, and two more.
 use native.Mathlib.Omega.{arith}
 use Rattle.still_run.proofs.Split.{parts}
 use Rattle.still_run.proofs.four.Goals as goal

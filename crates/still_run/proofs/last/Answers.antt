@@ -1,4 +1,4 @@
--- `still_run::last` meets its contract. Assumes nothing.
+-- No byte, one, or two.
 use mathlib.Core.Path.{◌≡◌, refl}
 use native.Mathlib.Omega.{arith}
 use Rattle.rules.specs.Forms.{turns}

@@ -1,4 +1,4 @@
--- What `still_run::one` answers: the byte that it adds is below 256. Assumes nothing.
+-- The byte that is added is below 256.
 use native.Mathlib.Nat.{add-zero}
 use native.Mathlib.Omega.{arith}
 use Rattle.rules.specs.Forms.{turns}

@@ -1,4 +1,4 @@
--- `still_run::run` meets its contract. Assumes nothing.
+-- The run is four bytes, and the rest.
 use Rattle.still_run.proofs.Split.{parts}
 use Rattle.still_run.proofs.run.Goals as goal
 

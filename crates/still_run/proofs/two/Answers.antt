@@ -1,4 +1,4 @@
--- `still_run::two` meets its contract. Assumes nothing.
+-- Two bytes are one, and one more.
 use native.Mathlib.Omega.{arith}
 use Rattle.still_run.proofs.Split.{parts}
 use Rattle.still_run.proofs.two.Goals as goal

@@ -1,4 +1,4 @@
--- `still_same::detail` meets its contract. Assumes nothing.
+-- The arithmetic is that of `detail_by`.
 use mathlib.Core.Path.{refl}
 use Rattle.still_same.specs.Same.{detail_by}
 use Rattle.still_same.proofs.detail.Goals as goal

@@ -1,4 +1,4 @@
--- `still_same::is_same` meets its contract. Assumes nothing.
+-- The tests are those of the rules.
 use Rattle.rules.specs.Still.{is_same}
 use Rattle.still_same.proofs.is_same.Goals as goal
 

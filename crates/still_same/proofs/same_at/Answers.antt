@@ -1,4 +1,4 @@
--- `still_same::same_at` meets its contract. Assumes nothing.
+-- The bytes and details are those that the definition reads.
 use Rattle.still_same.specs.Same.{same_by}
 use Rattle.still_same.proofs.same_at.Goals as goal
 

@@ -1,4 +1,4 @@
--- `still_same::same_row` meets its contract. The invariant: the first x pixels are stored. Assumes nothing.
+-- The invariant of `still_same::same_row`: the first x pixels are stored.
 use mathlib.Core.Path.{◌≡◌}
 use Prim.Native.Nat.{◌-◌, ◌≤◌}
 use lib.ListN.{length}

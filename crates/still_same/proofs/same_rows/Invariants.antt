@@ -1,4 +1,4 @@
--- `still_same::same_rows` meets its contract. The invariant: the first y rows are stored. Assumes nothing.
+-- The invariant of `still_same::same_rows`: the first y rows are stored.
 use mathlib.Core.Path.{◌≡◌}
 use Prim.Native.Nat.{◌-◌, ◌≤◌}
 use lib.ListN.{length}
