@@ -43,7 +43,8 @@ module _ (pairs many : ℕ) (f : Pass) (old : List Float) where
       rw (add-suc k n) (one (k + n) (terms_added pairs n ts k l) (get_or ts n nan) (pixel ts k l so_far e n (omega arith)) (e n (omega arith)))
 
   -- a term of pixel (x, y) is the table's
-  term : (x y j : ℕ) → x < width → j < many → get_or (terms_of f x y) j nan ≡ get_or (terms_of f ((many * (y * width + x) + j) / many % width) ((many * (y * width + x) + j) / many / width)) ((many * (y * width + x) + j) % many) nan
+  term : (x y j : ℕ) → x < width → j < many
+      → get_or (terms_of f x y) j nan ≡ get_or (terms_of f ((many * (y * width + x) + j) / many % width) ((many * (y * width + x) + j) / many / width)) ((many * (y * width + x) + j) % many) nan
   term x y j h l =
       let e = entry_of many (y * width + x) j l in
       rw (e.0, e.1, digits_mod y h, digits_div y h)

@@ -12,7 +12,9 @@ abbrev pub invariant-loop-k : goal.invariant-loop-k
 invariant-loop-k l =
     (l.sums
     ≡ run_added l.pairs l.many
-    (λ j. six_terms (get_or l.pb j nan) (get_or l.pa j nan) (at (record { bytes = l.second; pitch = l.second_pitch }) (l.x + j) l.y) (at (record { bytes = l.first; pitch = l.first_pitch }) (l.x + j) l.y))
+    (λ j. six_terms (get_or l.pb j nan) (get_or l.pa j nan)
+    (at (record { bytes = l.second; pitch = l.second_pitch }) (l.x + j) l.y)
+    (at (record { bytes = l.first; pitch = l.first_pitch }) (l.x + j) l.y))
     l.initial.at l.k l.initial.sums)
     × (l.at ≡ l.initial.at + l.many * l.k) × (l.k ≤ l.n) × (length l.sums ≡ length l.initial.sums)
 
