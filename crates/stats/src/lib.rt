@@ -1,4 +1,6 @@
 // Stats: one pair of frames added to the sums.
+#![tactic(auto)]
+
 ghost use Rattle.std.specs.Prelude.{◌≡◌, ◌≤◌};
 ghost use Rattle.rules.specs.Refusals.{stats_refusal};
 ghost use Rattle.stats_refuse.specs.Call.{stats_by};
