@@ -18,7 +18,7 @@ use plane::Change;
 use rules::{Model, Scene};
 
 // What is done with a plane: the layer is taken off, or laid on at a time between two frames.
-#[derive(Drop)]
+#[derive(Clone, Copy)]
 pub enum Work {
     Peel,
     Unpeel,

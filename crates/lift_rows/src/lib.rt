@@ -1,4 +1,6 @@
 // A pass of peel or unpeel over a plane: row by row, and in a row run by run of near cells.
+#![tactic(auto)]
+
 ghost use Rattle.std.specs.Prelude.{◌≤◌, ◌<◌};
 ghost use Rattle.layer_lent.specs.Lent.{lent, lay, Planned, ChromaLong};
 ghost use Rattle.layer_texel.specs.Fixed.{Fixed};
@@ -9,7 +11,7 @@ use layer_lent::Plan;
 use lift_pixel::Work;
 
 // The pixels of a row from a column to another, and what is counted before them.
-#[derive(Drop)]
+#[derive(Clone, Copy)]
 pub struct Stretch {
     pub y: usize,
     pub from: usize,

@@ -1,0 +1,49 @@
+-- What is left to answer of `lift_rows::cells_end`'s goals.
+use mathlib.Core.Path.{sym, ◌∙◌}
+use native.Mathlib.Omega.{arith}
+use mir.Syntax.{w16}
+use Rattle.layer_lent.proofs.Signed.{back}
+use Rattle.lift_rows.proofs.Cells.{differs, agrees, test_is, alike_more}
+use Rattle.lift_rows.proofs.cells_end.Goals as goal
+
+pub loop-x-init : goal.loop-x-init
+loop-x-init c = (λ luma first k low high. absurd (omega arith), omega arith, omega arith)
+
+pub returns-then-near : goal.returns-then-near
+returns-then-near c =
+    let d = c.distance in
+    let at-loop = c.loop-x in
+    let other = differs c.near.result c.args.near c.if-near.true in
+    let told = rw (back w16 d.result d.type_inv) at (sym c.near.ensures ∙ other) in
+    record {
+      ahead = at-loop.invariant.1;
+      within = at-loop.invariant.2;
+      alike = at-loop.invariant.0;
+      ends = λ inside. test_is c.args.plan c.requires.0 _ c.args.y at-loop.x _ d.result d.ensures told;
+    }
+
+pub cell_end-x-requires : goal.cell_end-x-requires
+cell_end-x-requires c =
+    let h = c.requires.0 in
+    (h.cell, h.small.0, h.small.1, c.loop-x-test.true, h.wide.1)
+
+pub loop-x-smaller : goal.loop-x-smaller
+loop-x-smaller c = omega (arith, c.cell_end-x.ensures.ahead, c.cell_end-x.ensures.within)
+
+pub loop-x-preserved : goal.loop-x-preserved
+loop-x-preserved c =
+    let d = c.distance in
+    let at-loop = c.loop-x in
+    let end = c.cell_end-x.ensures in
+    let same = agrees c.near.result c.args.near c.if-near.false in
+    let told = rw (back w16 d.result d.type_inv) at (sym c.near.ensures ∙ same) in (
+      alike_more c.args.plan c.requires.0 _ c.args.y c.args.from at-loop.x c.cell_end-x.result c.args.near d.result d.ensures told end at-loop.invariant.0,
+      omega (arith, at-loop.invariant.1, end.ahead),
+      end.within,
+    )
+
+pub returns : goal.returns
+returns c =
+    let inv = c.loop-x.invariant in
+    let out = c.loop-x-test.false in
+    record { ahead = inv.1; within = inv.2; alike = inv.0; ends = λ inside. absurd (omega arith) }
