@@ -12,7 +12,8 @@ use Rattle.rules.specs.declared.Sizes.{Sizes}
 use Rattle.rules.specs.Forms.{turns, all, cells, uncounted}
 use Rattle.rules.specs.Domain.{are_sizes, is_ratio, is_fit}
 use Rattle.rules.specs.Refusals.{parcel_rows}
-use Rattle.rules.specs.Parcel.{records, is_whole, kinds_right, payload_of, head_size, head_ratio, is_head, are_long, lengths_right, layer_read, parcel_size, parcel_ratio, parcel_sizes_refusal, parcel_read_refusal, parcel_sizes_answer}
+use Rattle.rules.specs.Parcel.{records, is_whole, kinds_right, payload_of, head_size, head_ratio, is_head}
+use Rattle.rules.specs.Parcel.{are_long, lengths_right, layer_read, parcel_size, parcel_ratio, parcel_sizes_refusal, parcel_read_refusal, parcel_sizes_answer}
 use Rattle.rules.specs.Host.{word}
 use Rattle.calls.specs.Lent.{fit_of}
 use Rattle.laws.proofs.Accepted.{both, row_right, exact_in, sizes_in, ratio_in, cells_in, Side, Shrinks}
@@ -142,7 +143,12 @@ pub told_sizes : (parcel : List ℕ) (s : Contents) → Surveyed parcel s → (r
 told_sizes parcel s seen r e = e ∙ rw (seen.number, seen.width, seen.height, seen.ratio) (go (eqb (parcel_sizes_refusal parcel) 0))
   where
     go : (b : Bool) → ◌≡◌ {A = Sizes}
-        (record { word = word (uncounted (parcel_sizes_refusal parcel)); width = cond b (cond b (parcel_size parcel).0 0) 0; height = cond b (cond b (parcel_size parcel).1 0) 0; ratio = cond b (cond b (parcel_ratio parcel) 0) 0 })
+        (record {
+          word = word (uncounted (parcel_sizes_refusal parcel));
+          width = cond b (cond b (parcel_size parcel).0 0) 0;
+          height = cond b (cond b (parcel_size parcel).1 0) 0;
+          ratio = cond b (cond b (parcel_ratio parcel) 0) 0;
+        })
         (record { word = word (uncounted (parcel_sizes_refusal parcel)); width = cond b (parcel_size parcel).0 0; height = cond b (parcel_size parcel).1 0; ratio = cond b (parcel_ratio parcel) 0 })
     go true = refl
     go false = refl

@@ -13,7 +13,8 @@ use Rattle.rules.specs.Forms.{Fit, Layer, turns, tabulate, all, each, area, shru
 use Rattle.rules.specs.Domain.{are_sizes, is_ratio, cover_length}
 use Rattle.rules.specs.Host.{numbers}
 use Rattle.rules.specs.Reading.{luma_gain, luma_offset, stored_chroma, cell}
-use Rattle.rules.specs.Parcel.{Record, records, in_bytes, is_short, written, split, is_whole, how_often, kinds_right, payload_of, head_size, head_ratio, head_bytes, are_long, lengths_right, row_by_row, gains, offsets, chroma_offsets, cell_numbers, layer_records, parcel_of, cell_or_zero, layer_read}
+use Rattle.rules.specs.Parcel.{Record, records, in_bytes, is_short, written, split, is_whole, how_often, kinds_right, payload_of, head_size, head_ratio}
+use Rattle.rules.specs.Parcel.{head_bytes, are_long, lengths_right, row_by_row, gains, offsets, chroma_offsets, cell_numbers, layer_records, parcel_of, cell_or_zero, layer_read}
 use Rattle.laws.proofs.Lists.{each_table, each_at}
 use Rattle.laws.proofs.Accepted.{Side, Shrinks}
 use Rattle.laws.proofs.Bytes.{joined, read_back}

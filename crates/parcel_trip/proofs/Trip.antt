@@ -7,7 +7,8 @@ use Rattle.rules.specs.Forms.{Fit, Layer}
 use Rattle.rules.specs.Calls.{ParcelWriteCall}
 use Rattle.rules.specs.Domain.{is_fit}
 use Rattle.rules.specs.Refusals.{first_fitting, layer_rows, parcel_write_refusal}
-use Rattle.rules.specs.Parcel.{Record, records, is_whole, kinds_right, payload_of, lengths_right, layer_records, parcel_of, parcel_size, parcel_ratio, sizes_answer, parcel_sizes_refusal, parcel_sizes_answer, parcel_read_refusal, parcel_read_answer}
+use Rattle.rules.specs.Parcel.{Record, records, is_whole, kinds_right, payload_of, lengths_right, layer_records}
+use Rattle.rules.specs.Parcel.{parcel_of, parcel_size, parcel_ratio, sizes_answer, parcel_sizes_refusal, parcel_sizes_answer, parcel_read_refusal, parcel_read_answer}
 use Rattle.laws.proofs.Accepted.{row_right, sizes_in, ratio_in}
 use Rattle.laws.proofs.Parcels.{parcel_long}
 use Rattle.parcel_trip.specs.Trip.{Short, Back, RoundTrip, ParcelLong}

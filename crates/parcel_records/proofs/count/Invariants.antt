@@ -1,4 +1,5 @@
--- The invariant and the measure of `parcel_records::count`: the records that lie before a place; what is left of the parcel.
+-- The invariant and the measure of `parcel_records::count`: the records that lie before a place; what is left of the
+-- parcel.
 use Prim.Native.Nat.{◌-◌}
 use lib.ListN.{length}
 use Rattle.parcel_records.specs.Steps.{Counting}

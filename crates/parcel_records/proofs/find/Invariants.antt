@@ -1,4 +1,5 @@
--- The invariant and the measure of `parcel_records::find`: the place among the records before a point; what is left of the parcel.
+-- The invariant and the measure of `parcel_records::find`: the place among the records before a point; what is left of
+-- the parcel.
 use Prim.Native.Nat.{◌-◌}
 use lib.ListN.{length}
 use Rattle.parcel_records.specs.Steps.{Finding}
