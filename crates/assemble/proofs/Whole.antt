@@ -1,5 +1,5 @@
 -- A whole call of assemble: refused, or run. Assumes nothing.
-use mathlib.Core.Path.{◌≡◌, refl, sym}
+use mathlib.Core.Path.{◌≡◌, refl}
 use mathlib.Core.List.{List}
 use Prim.Native.Nat.{ℕ, ◌*◌}
 use borrow.Author.Tests.{eqb-true, ne_eqb}

@@ -1,4 +1,6 @@
 // Assembly: models and a cover as the numbers of a layer.
+#![tactic(auto)]
+
 ghost use Rattle.std.specs.Prelude.{◌≡◌};
 ghost use Rattle.rules.specs.Refusals.{assemble_refusal};
 ghost use Rattle.calls.specs.Lent.{fit_of, assemble_call};
