@@ -1,4 +1,6 @@
 // What lies under a layer at a point, filled from the rings around it.
+#![tactic(auto)]
+
 ghost use Rattle.std.specs.Prelude.{◌≡◌, ◌<◌, ◌≤◌};
 ghost use Rattle.rules.specs.Float.{cut, ◌⊗◌, ◌⊕◌};
 ghost use Rattle.rules.specs.Scene.{under as under_of, sign as sign_of, gathered as gathered_of, stepped, filled as filled_of, ring as ring_of};
@@ -12,7 +14,7 @@ use layer_lent::Plan;
 use rules::{Ring, Scene};
 
 // A ring: the point that it lies around, and how far.
-#[derive(Drop)]
+#[derive(Clone, Copy)]
 struct Circle {
     x: f32,
     y: f32,
