@@ -31,7 +31,11 @@ digits w l u = exact (size w) (size-le w 173 u) (lt_of_not-le (λ h. not-le_of_l
 cancel : (x : Float) (q : ℕ) → HasValue x false (q * 2 ^ 149) (2 ^ 149) → HasValue x false q 1
 cancel nan q v = v
 cancel (inf t) q v = v
-cancel (fin t m e) q v = (v.0, eq_of_mul-eq-mul_right (2 ^ 149) (pow_pos 149) (m * up e * 1) (q * down e) (ap (λ (z : ℕ). z * 2 ^ 149) (mul-one (m * up e)) ∙ v.1 ∙ mul_right_comm q (2 ^ 149) (down e)))
+cancel (fin t m e) q v = (
+  v.0,
+  eq_of_mul-eq-mul_right (2 ^ 149) (pow_pos 149) (m * up e * 1) (q * down e)
+      (ap (λ (z : ℕ). z * 2 ^ 149) (mul-one (m * up e)) ∙ v.1 ∙ mul_right_comm q (2 ^ 149) (down e)),
+)
 
 near : (num den : ℕ) → 0 < den → 2 ^ 23 * den ≤ num → num < 2 ^ 24 * den → HasValue (round binary32 false num den) false (closest num den) 1
 near num den D l u =
@@ -114,7 +118,8 @@ floored_at m e U =
       is = is;
       small = R;
       more = λ t. above fl q lo hi (λ h. not-lt_of_le (of_int binary32 (pos r)) x
-          (le_by_values (of_int binary32 (pos r)) x false r 1 false A D (zero-lt-suc 0) (down_pos e) v (refl, refl) (le_trans (mul-le-mul_right D h) (le_trans (div-mul-le_self A D) (le_of_eq (sym (mul-one A))))))
+          (le_by_values (of_int binary32 (pos r)) x false r 1 false A D (zero-lt-suc 0) (down_pos e) v (refl, refl)
+          (le_trans (mul-le-mul_right D h) (le_trans (div-mul-le_self A D) (le_of_eq (sym (mul-one A))))))
           (subst (λ (y : Float). T (lt x y)) is (T_of (lt x (there_and_back x)) t))) ∙ ap suc (sym c);
       same = λ t. below fl q lo hi ((le-div_iff_mul-le (down_pos e)).1 (le_trans
           (values_by_le (of_int binary32 (pos r)) x false r 1 false A D v (refl, refl) (zero-lt-suc 0) (down_pos e)

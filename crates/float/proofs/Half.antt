@@ -89,7 +89,9 @@ halved nan F a b = absurd a
 halved (inf true) F a b = absurd a
 halved (inf false) F a b = absurd b
 halved (fin true m e) F a b = absurd a
-halved (fin false zero e) F a b = absurd (lt_irrefl 0 (subst (λ (z : ℕ). 0 < z) (mul-one (0 * up e) ∙ zero-mul (up e)) (subst (λ (z : ℕ). z < 0 * up e * 1) (zero-mul (down e)) (ltb→lt (0 * 1 * down e) (0 * up e * 1) a))))
+halved (fin false zero e) F a b =
+    absurd (lt_irrefl 0 (subst (λ (z : ℕ). 0 < z) (mul-one (0 * up e) ∙ zero-mul (up e))
+    (subst (λ (z : ℕ). z < 0 * up e * 1) (zero-mul (down e)) (ltb→lt (0 * 1 * down e) (0 * up e * 1) a))))
 halved (fin false (suc m) e) F a b =
     let n = suc m in
     let one = eqb (n % 2) 1 in

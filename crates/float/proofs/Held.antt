@@ -1,5 +1,5 @@
--- `size_to` by tests of the float: in range it is the rounded size, past the end it is the end, and at 0 and below it is
--- of no account. Assumes nothing.
+-- `size_to` by tests of the float: in range it is the rounded size, past the end it is the end, and at 0 and below it
+-- is of no account. Assumes nothing.
 use mathlib.Core.Path.{◌≡◌, refl, sym, ap, ◌∙◌, subst}
 use Prim.Native.Nat.{ℕ, ◌+◌, ◌*◌, ◌/◌, ◌≤◌, ◌<◌, min}
 use native.Mathlib.Nat.{le_trans, le_of_eq, le_of_suc-le-suc, mul_left_comm, mul-one, suc-mul, add_comm, div-lt_iff_lt-mul, le-div_iff_mul-le, mul-pos, zero-lt-suc}
@@ -16,7 +16,9 @@ use Rattle.float.proofs.Basics.{origin, not-below}
 use Rattle.laws.proofs.Value.{not_of, T_of}
 
 under : (A d L : ℕ) → 0 < d → A < L * d → (2 * A + d) / (2 * d) ≤ L
-under A d L D h = le_of_suc-le-suc ((div-lt_iff_lt-mul (mul-pos (zero-lt-suc 1) D)).1 (subst (λ (z : ℕ). 2 * A + d < z) (sym (suc-mul L (2 * d) ∙ ap (λ (z : ℕ). z + 2 * d) (mul_left_comm L 2 d))) (room (L * d) D h)))
+under A d L D h =
+    le_of_suc-le-suc ((div-lt_iff_lt-mul (mul-pos (zero-lt-suc 1) D)).1
+    (subst (λ (z : ℕ). 2 * A + d < z) (sym (suc-mul L (2 * d) ∙ ap (λ (z : ℕ). z + 2 * d) (mul_left_comm L 2 d))) (room (L * d) D h)))
   where
     room : (t : ℕ) → 0 < d → A < t → 2 * A + d < 2 * t + 2 * d
     room t D h = omega arith
@@ -91,7 +93,9 @@ unfolding lt neg
 flip_origin nan h = h
 flip_origin (inf true) h = refl
 flip_origin (inf false) h = h
-flip_origin (fin true m e) h = is_true (ltb (0 * 1 * down e) (m * up e * 1)) (lt→ltb (0 * 1 * down e) (m * up e * 1) (more (m * up e) (down e) (ltb→lt 0 (m * up e * 1 + 0 * 1 * down e) (T_of (ltb 0 (m * up e * 1 + 0 * 1 * down e)) h))))
+flip_origin (fin true m e) h =
+    is_true (ltb (0 * 1 * down e) (m * up e * 1))
+    (lt→ltb (0 * 1 * down e) (m * up e * 1) (more (m * up e) (down e) (ltb→lt 0 (m * up e * 1 + 0 * 1 * down e) (T_of (ltb 0 (m * up e * 1 + 0 * 1 * down e)) h))))
   where
     more : (x d : ℕ) → 0 < x * 1 + 0 * 1 * d → 0 * 1 * d < x * 1
     more x d h = omega arith

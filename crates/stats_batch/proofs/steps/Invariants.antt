@@ -1,4 +1,5 @@
--- The invariant of `stats_batch::steps`: the steps of the pixels below k are filled in, and what is carried holds its columns.
+-- The invariant of `stats_batch::steps`: the steps of the pixels below k are filled in, and what is carried holds its
+-- columns.
 use Prim.Native.Nat.{◌-◌}
 use Rattle.motion.specs.Moves.{motion_of}
 use Rattle.stats_batch.specs.Lanes.{Stepping}
