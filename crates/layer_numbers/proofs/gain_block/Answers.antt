@@ -1,3 +1,4 @@
+-- `layer_numbers::gain_block` meets its contract. Assumes nothing.
 use mathlib.Core.Path.{refl}
 use native.Mathlib.Nat.{le_antisymm}
 use native.Mathlib.Omega.{arith}

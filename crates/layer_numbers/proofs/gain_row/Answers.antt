@@ -1,3 +1,4 @@
+-- `layer_numbers::gain_row` meets its contract. Assumes nothing.
 use native.Mathlib.Nat.{le_antisymm, mul-le-mul}
 use native.Mathlib.Omega.{arith}
 use mir.Syntax.{w32}
