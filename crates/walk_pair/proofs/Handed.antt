@@ -1,8 +1,8 @@
 -- A pair that a walk is handed: refused, or added to the slot of its chunk. Assumes nothing.
-use mathlib.Core.Path.{◌≡◌, refl, subst, ◌∙◌}
+use mathlib.Core.Path.{◌≡◌, subst, ◌∙◌}
 use mathlib.Core.Bool.{Bool}
 use mathlib.Core.List.{List, [], ◌∷◌}
-use Prim.Native.Nat.{ℕ, ◌+◌, ◌/◌, ◌%◌}
+use Prim.Native.Nat.{ℕ, ◌+◌, ◌%◌}
 use native.Mathlib.Omega.{arith}
 use borrow.Author.Tests.{ne_eqb}
 use lib.ListN.{length, set}
@@ -13,7 +13,6 @@ use Rattle.rules.specs.Forms.{Slot, absent}
 use Rattle.rules.specs.Calls.{WalkPairCall, StatsCall}
 use Rattle.rules.specs.Domain.{are_slots}
 use Rattle.rules.specs.Refusals.{◌unless◌, Table, first_fitting, pair_rows, stats_refusal}
-use Rattle.rules.specs.Stats.{stats_sums}
 use Rattle.rules.specs.Walk.{chunk_of, pairs_in, is_turn, slot, walk_size, walked, moved, pair_stats, walk_pair_refusal, pair_slots}
 use Rattle.told.specs.Told.{PairTold}
 use Rattle.plane.specs.Slices.{Slices}

@@ -1,4 +1,6 @@
 // A pair that a walk is handed: the tests, and stats on the part of the pair's chunk.
+#![tactic(auto)]
+
 ghost use Rattle.std.specs.Prelude.{◌≡◌, [], ◌∷◌};
 ghost use Rattle.rules.specs.Forms.{absent};
 ghost use Rattle.rules.specs.Refusals.{◌unless◌, first_fitting, pair_rows};
@@ -13,7 +15,7 @@ use motion::Grid;
 use rules::{Walk, Walked};
 
 // The numbers of a call: the pair's own number, the pitches of each frame's planes, and what the motion is laid out by.
-#[derive(Drop)]
+#[derive(Clone, Copy)]
 pub struct Numbers {
     pub number: usize,
     pub first: [usize; 3],
