@@ -1,5 +1,7 @@
 // Peel and unpeel: the layer taken off, and laid on again. The contract of each is the equation for accepted and
 // refused calls.
+#![tactic(auto)]
+
 ghost use Rattle.peel.specs.Call.{peel_of, unpeel_of, Peeled, Unpeeled};
 
 use layer_lent::Shape;
