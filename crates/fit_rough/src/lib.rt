@@ -1,4 +1,6 @@
 // The window's answer at each luma pixel, as rough models.
+#![tactic(auto)]
+
 ghost use Rattle.std.specs.Prelude.{◌≡◌, ◌+◌, ◌*◌, ◌<◌, ◌≤◌, length};
 ghost use Rattle.rules.specs.declared.Found.TheVariants.{At};
 ghost use Rattle.rules.specs.Forms.{scan_row};

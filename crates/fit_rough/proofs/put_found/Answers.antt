@@ -1,0 +1,31 @@
+-- `fit_rough::put_found` meets its contract. Assumes nothing.
+use Prim.Native.Nat.{◌<◌, ◌*◌}
+use native.Mathlib.Omega.{arith}
+use Rattle.rules.specs.Window.{fitted}
+use Rattle.fit_rough.specs.Search.{found_put}
+use Rattle.fit_rough.proofs.Pixels.{spot_is, spot_in, pixel_in}
+use Rattle.fit_rough.proofs.put_found.Goals as goal
+
+pub offsets_of-offsets-requires : goal.offsets_of-offsets-requires
+offsets_of-offsets-requires c =
+    let a = c.args in
+    let q = c.requires.0 in
+    (q.ready, omega (arith, c.place-spot.ensures, spot_in a.sizes q.formed a.pixel.x a.pixel.y c.requires.1 c.requires.2, q.chroma_long))
+
+pub put_model-requires : goal.put_model-requires
+put_model-requires c =
+    let a = c.args in
+    let inside : c.place-at.result < a.sizes.width * a.sizes.height = rw c.place-at.ensures (pixel_in a.sizes c.requires.0.formed a.pixel.x a.pixel.y c.requires.1 c.requires.2) in
+    omega (arith, inside, c.requires.0.models_long)
+
+pub bounds-kept-at : goal.bounds-kept-at
+bounds-kept-at c =
+    let a = c.args in
+    let inside : c.place-at.result < a.sizes.width * a.sizes.height = rw c.place-at.ensures (pixel_in a.sizes c.requires.0.formed a.pixel.x a.pixel.y c.requires.1 c.requires.2) in
+    omega (arith, inside, c.requires.0.kept_long)
+
+pub returns : goal.returns
+unfolding found_put fitted
+returns c =
+    let a = c.args in
+    rw (c.put_model.ensures, c.offsets_of-offsets.ensures, c.place-spot.ensures, c.place-at.ensures, spot_is a.sizes c.requires.0.formed a.pixel.x a.pixel.y c.requires.1 c.requires.2)
