@@ -9,7 +9,7 @@ use lib.IntN.{ℤ}
 use Rattle.rules.specs.declared.Model.{Model}
 use Rattle.rules.specs.Literals.{0·0, 8·0}
 use Rattle.rules.specs.Float.{◌⊖◌, ◌⊗◌, ◌≼◌, signed}
-use Rattle.rules.specs.Forms.{Plane, Frames, Layer, plane_size, turns, scan_row, scan, tally, counted}
+use Rattle.rules.specs.Forms.{Layer, plane_size, turns, scan_row, scan, tally, counted}
 use Rattle.rules.specs.Model.{is_plain}
 use Rattle.rules.specs.Reading.{distance, gap, texel}
 use Rattle.rules.specs.Peel.{layered, peel_rule}

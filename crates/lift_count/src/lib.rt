@@ -1,4 +1,6 @@
 // Which pixels of a plane peel and unpeel write, and how many, by the layer alone: no byte plane is read.
+#![tactic(auto)]
+
 ghost use Rattle.std.specs.Prelude.{◌≡◌, ◌≤◌, ◌<◌, ◌+◌, ◌^◌};
 ghost use Rattle.rules.specs.Peel.{layered};
 ghost use Rattle.layer_lent.specs.Lent.{lay, Sound, Inside};

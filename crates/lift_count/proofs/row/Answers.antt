@@ -1,0 +1,52 @@
+-- What is left to answer of `lift_count::row`'s goals.
+use native.Mathlib.Nat.{le_antisymm}
+use native.Mathlib.Omega.{arith}
+use Rattle.layer_lent.specs.Lent.{lay}
+use Rattle.lift_pixel.proofs.Peels.{far_writes}
+use Rattle.lift_rows.proofs.Cells.{onward}
+use Rattle.lift_count.proofs.Counted.{row_none, row_on, row_far}
+use Rattle.lift_count.proofs.row.Goals as goal
+
+pub loop-x-init : goal.loop-x-init
+loop-x-init c = (row_none _, omega arith)
+
+pub cells_end-from-requires : goal.cells_end-from-requires
+cells_end-from-requires c =
+    (c.requires.0.planned, c.requires.0.second_long, c.requires.1, c.loop-x.invariant.1)
+
+pub cells_end-to-requires : goal.cells_end-to-requires
+cells_end-to-requires c =
+    (c.requires.0.planned, c.requires.0.second_long, c.requires.1, c.cells_end-from.ensures.within)
+
+pub near_run-n-requires : goal.near_run-n-requires
+near_run-n-requires c =
+    let inv = c.loop-x.invariant in
+    let far = c.cells_end-from.ensures in
+    let near = c.cells_end-to.ensures in (
+      c.requires.0,
+      record {
+        above = c.requires.1;
+        ahead = near.ahead;
+        within = near.within;
+        few = omega (arith, inv.0.few, c.requires.2, far.ahead, near.ahead, near.within, c.requires.0.planned.wide.1);
+      },
+      near.alike _ _,
+    )
+
+pub loop-x-smaller : goal.loop-x-smaller
+loop-x-smaller c =
+    let near = c.cells_end-to.ensures in
+    omega (arith, onward c.args.plan c.requires.0.planned _ c.args.y c.cells_end-from.ensures near c.loop-x-test.true, near.within)
+
+pub loop-x-preserved : goal.loop-x-preserved
+loop-x-preserved c =
+    let at-loop = c.loop-x in
+    let far = c.cells_end-from.ensures in
+    let near = c.cells_end-to.ensures in
+    let l = lay c.args.plan.shape c.args.numbers c.args.bytes in
+    (row_on near.ahead (row_far far.ahead (λ k low high. far_writes l _ k c.args.y (far.alike _ _ k low high)) at-loop.invariant.0) c.near_run-n.ensures, near.within)
+
+pub returns : goal.returns
+returns c =
+    let at-loop = c.loop-x in
+    rw (le_antisymm at-loop.invariant.1 c.loop-x-test.false) at at-loop.invariant.0

@@ -1,0 +1,14 @@
+-- The invariant and the measure of `lift_count::run`.
+use Prim.Native.Nat.{◌-◌, ◌≤◌}
+use Rattle.layer_lent.specs.Lent.{lay}
+use Rattle.lift_count.specs.Counts.{CountedOn}
+use Rattle.lift_count.proofs.run.Given as goal
+
+abbrev pub invariant-loop-x : goal.invariant-loop-x
+invariant-loop-x l =
+    CountedOn (lay l.plan.shape l.numbers l.bytes) l.plan.shape.plane l.stretch.y l.stretch.from l.x l.stretch.count l.n
+    × (l.stretch.from ≤ l.x)
+    × (l.x ≤ l.stretch.to)
+
+abbrev pub decreases-loop-x : goal.decreases-loop-x
+decreases-loop-x l = l.stretch.to - l.x
