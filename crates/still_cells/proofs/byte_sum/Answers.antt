@@ -1,10 +1,9 @@
 use mathlib.Core.Path.{refl, ◌∙◌}
-use native.Mathlib.Nat.{le_antisymm}
 use native.Mathlib.Numerals.{add-one}
 use native.Mathlib.Omega.{arith}
 use Rattle.rules.specs.Forms.{turns}
 use Rattle.still_cells.specs.Cells.{sum_of}
-use Rattle.still_cells.proofs.Places.{row_fits, row_more, all_rows}
+use Rattle.still_cells.proofs.Places.{row_fits, row_more}
 use Rattle.still_cells.proofs.byte_sum.Goals as goal
 
 pub loop-dy-init : goal.loop-dy-init
@@ -21,10 +20,3 @@ unfolding turns sum_of
 loop-dy-preserved c =
     let l = c.loop-dy in
     (c.byte_row-n.ensures.sum ∙ rw (l.invariant.0, c.place-row.ensures, add-one), omega arith, row_more _ _ _ _ l.invariant.2 c.byte_row-n.ensures.few)
-
-pub returns : goal.returns
-returns c =
-    let a = c.args in
-    let l = c.loop-dy in
-    let e = le_antisymm l.invariant.1 c.loop-dy-test.false in
-    record { sum = rw e at l.invariant.0; few = rw (e, all_rows a.across a.down) at l.invariant.2 }

@@ -7,16 +7,8 @@ use lib.ListN.{length, length-set}
 use Rattle.rules.specs.Reading.{after}
 use Rattle.still_pass.proofs.Accepted.{row_in}
 use Rattle.still_corner.specs.Corner.{column_of, Holds}
-use Rattle.still_corner.proofs.Marks.{mark_is, row_marked, none_marked, column_is, column_in}
+use Rattle.still_corner.proofs.Marks.{mark_is, row_marked, none_marked, column_is}
 use Rattle.still_corner.proofs.mark_row.Goals as goal
-
-pub column_at-mid-requires : goal.column_at-mid-requires
-column_at-mid-requires c =
-    let a = c.args in
-    -- the rows above and below are rows of the plane
-    let r : (c.previous-above.result < a.height) × (c.after-below.result < a.height) =
-    (omega (arith, c.previous-above.ensures), c.after-below.ensures.1) in
-    column_in a.still.now _ (a.width, a.height) 0 _ a.y _ c.requires.0 refl c.requires.1 r.0 c.requires.2 r.1
 
 pub loop-x-init : goal.loop-x-init
 loop-x-init c =
@@ -27,15 +19,6 @@ loop-x-init c =
     let first : (same : ℕ → ℕ → Bool) → Holds same (a.width, a.height) a.still.now → c.column_at-mid.result ≡ column_of same 0 _ a.y _ =
     λ same h. c.column_at-mid.ensures ∙ column_is same (a.width, a.height) a.still.now 0 _ a.y _ h c.requires.1 r.0 c.requires.2 r.1 in
     (λ same h. (none_marked same (a.width, a.height) a.y a.still.now h, first same h, first same h), omega arith, refl)
-
-pub column_at-right-requires : goal.column_at-right-requires
-column_at-right-requires c =
-    let a = c.args in
-    -- the rows above and below are rows of the plane
-    let r : (c.previous-above.result < a.height) × (c.after-below.result < a.height) =
-    (omega (arith, c.previous-above.ensures), c.after-below.ensures.1) in
-    let right : c.loop-x.x + 1 < a.width = omega arith in
-    column_in a.still.now _ (a.width, a.height) (c.loop-x.x + 1) _ a.y _ c.requires.0 c.loop-x.invariant.2 right r.0 c.requires.2 r.1
 
 pub bounds-still-k : goal.bounds-still-k
 bounds-still-k c = omega (arith, c.place-k.ensures, (row_in c.requires.0 c.requires.2).inside, c.loop-x.invariant.2)
@@ -60,9 +43,6 @@ loop-x-preserved c =
       omega arith,
       simp length-set c.loop-x.invariant.2,
     )
-
-pub bounds-still-k-2 : goal.bounds-still-k-2
-bounds-still-k-2 c = omega (arith, c.place-k-2.ensures, (row_in c.requires.0 c.requires.2).inside, c.loop-x.invariant.2)
 
 pub returns : goal.returns
 returns c = λ same h.

@@ -1,17 +1,10 @@
 use mathlib.Core.Path.{refl, ◌∙◌}
-use native.Mathlib.Nat.{le_antisymm}
 use native.Mathlib.Omega.{arith}
-use Rattle.still_pass.proofs.Accepted.{plane_as_long}
 use Rattle.still_corner.proofs.Marks.{no_row, rows_marked}
 use Rattle.still_corner.proofs.mark_rows.Goals as goal
 
 pub loop-y-init : goal.loop-y-init
 loop-y-init c = (λ same h. no_row same _ _ h, omega arith, refl)
-
-pub mark_row-requires : goal.mark_row-requires
-mark_row-requires c =
-    let fits = c.requires in
-    (plane_as_long fits.0 c.loop-y.invariant.2, fits.1, c.loop-y-test.true)
 
 pub loop-y-preserved : goal.loop-y-preserved
 loop-y-preserved c =
@@ -20,8 +13,3 @@ loop-y-preserved c =
       omega arith,
       c.mark_row.auto.still ∙ inv.2,
     )
-
-pub returns : goal.returns
-returns c = λ same h.
-    let l = c.loop-y in
-    rw (le_antisymm l.invariant.1 c.loop-y-test.false) at (l.invariant.0 same h)

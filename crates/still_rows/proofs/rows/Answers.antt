@@ -1,5 +1,4 @@
 use mathlib.Core.Path.{refl, ◌∙◌}
-use native.Mathlib.Nat.{le_antisymm}
 use native.Mathlib.Omega.{arith}
 use Rattle.still_pass.proofs.Pass.{rows_none, rows_more}
 use Rattle.still_pass.proofs.Accepted.{row_in, row_as_long}
@@ -22,8 +21,3 @@ pub loop-y-preserved : goal.loop-y-preserved
 loop-y-preserved c =
     let inv = c.loop-y.invariant in
     (rows_more inv.0 c.row.ensures, omega arith, c.row.auto.output ∙ inv.2)
-
-pub returns : goal.returns
-returns c =
-    let l = c.loop-y in
-    rw (le_antisymm l.invariant.1 c.loop-y-test.false) at l.invariant.0

@@ -1,26 +1,15 @@
 use mathlib.Core.Path.{◌≡◌, refl, ◌∙◌}
-use Prim.Native.Nat.{◌+◌, ◌-◌, ◌<◌}
+use Prim.Native.Nat.{◌+◌, ◌-◌}
 use native.Mathlib.Nat.{le_antisymm}
 use native.Mathlib.Omega.{arith}
 use lib.ListN.{length-set}
 use Rattle.rules.specs.Reading.{after}
 use Rattle.still_pass.proofs.Tables.{row_none, row_more}
-use Rattle.still_same.proofs.Rows.{around, same_here}
+use Rattle.still_same.proofs.Rows.{same_here}
 use Rattle.still_same.proofs.same_row.Goals as goal
 
 pub loop-x-init : goal.loop-x-init
 loop-x-init c = (row_none _ _ _ _, omega arith, refl)
-
-pub same_at-requires : goal.same_at-requires
-same_at-requires c =
-    let a = c.after-below in
-    let x = c.loop-x.x in
-    let y = c.args.y in
-    let fits = c.requires in
-    let in_row : x < c.args.width = omega arith in
-    let beside : x + 1 < c.args.width = omega arith in
-    let under : a.result < c.args.height = a.ensures.1 in
-    (around x (x + 1) y a.result fits.1 in_row beside fits.4 under, around x (x + 1) y a.result fits.2 in_row beside fits.4 under)
 
 pub loop-x-preserved : goal.loop-x-preserved
 loop-x-preserved c =
@@ -28,16 +17,6 @@ loop-x-preserved c =
     let right : c.loop-x.x + 1 ≡ after c.loop-x.x a.width = omega arith in
     let value = c.same_at.ensures ∙ same_here _ _ (a.width, a.height) _ c.loop-x.x _ a.y _ right c.after-below.ensures.0 in
     (rw c.place-k.ensures (row_more _ c.loop-x.invariant.0 value), omega arith, simp length-set c.loop-x.invariant.2)
-
-pub same_at-requires-2 : goal.same_at-requires-2
-same_at-requires-2 c =
-    let a = c.after-below in
-    let y = c.args.y in
-    let last = c.args.width - 1 in
-    let fits = c.requires in
-    let in_row : last < c.args.width = omega arith in
-    let under : a.result < c.args.height = a.ensures.1 in
-    (around last last y a.result fits.1 in_row in_row fits.4 under, around last last y a.result fits.2 in_row in_row fits.4 under)
 
 pub returns : goal.returns
 returns c =
