@@ -11,7 +11,7 @@ use layer_lent::Shape;
 use rules::Model;
 
 // What is done to a pixel: whether it is written, and the byte that is put there then.
-#[derive(Drop)]
+#[derive(Clone, Copy)]
 pub struct Stroke {
     pub put: bool,
     pub byte: u8,

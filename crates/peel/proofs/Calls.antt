@@ -27,7 +27,8 @@ refused number r count new old e some =
 
 pub ran : (number r : ℕ) (rule : Rule) (width height pitch : ℕ) (before left : List ℕ) (n : ℕ) → r ≡ number → r ≡ 0 → height ≤ 4096
     → RowsDone rule width height pitch before left n
-    → PlaneAnswered (answer number (counted rule (width, height))) (leaves number (painted rule (width, height) (record { bytes = before; pitch = pitch })) before) left (record { number = 0; count = n })
+    → PlaneAnswered (answer number (counted rule (width, height)))
+    (leaves number (painted rule (width, height) (record { bytes = before; pitch = pitch })) before) left (record { number = 0; count = n })
 ran number r rule width height pitch before left n e z low done =
     record { answered = simp (← e, z, done.tally); bytes = simp (← e, z, done.bytes); few = omega arith }
 

@@ -13,7 +13,7 @@ use layer_lent::Plan;
 use rules::{Model, Moved, Steps};
 
 // A pixel of the plane.
-#[derive(Drop)]
+#[derive(Clone, Copy)]
 pub struct Spot {
     pub x: usize,
     pub y: usize,

@@ -14,7 +14,7 @@ use render_pixel::Spot;
 use rules::{Steps, Taps};
 
 // What a call is lent besides slices, and what follows from it.
-#[derive(Drop)]
+#[derive(Clone, Copy)]
 pub struct Job {
     pub algo: i32,
     pub far: f32,
@@ -23,14 +23,14 @@ pub struct Job {
 }
 
 // What is carried along a row: the count, and the columns of the last pixel's motion.
-#[derive(Drop)]
+#[derive(Clone, Copy)]
 pub struct Run {
     pub count: usize,
     pub carried: Carried,
 }
 
 // A pixel, and the grid's rows around it.
-#[derive(Drop)]
+#[derive(Clone, Copy)]
 struct Place {
     x: usize,
     y: usize,
@@ -38,7 +38,7 @@ struct Place {
 }
 
 // The pixels of a row from a column to another, and the grid's rows around it.
-#[derive(Drop)]
+#[derive(Clone, Copy)]
 struct Piece {
     y: usize,
     down: Taps,

@@ -5,4 +5,17 @@ use Rattle.empty.proofs.eight_unmarked.Goals as goal
 pub returns : goal.returns
 unfolding turns all
 returns c =
-    rw (c.all.ensures, c.unmarked-8.ensures, c.unmarked-7.ensures, c.all-six.ensures, c.unmarked-6.ensures, c.unmarked-5.ensures, c.all-four.ensures, c.unmarked-4.ensures, c.unmarked-3.ensures, c.both-two.ensures, c.unmarked-2.ensures, c.unmarked.ensures)
+    rw (
+      c.all.ensures,
+      c.unmarked-8.ensures,
+      c.unmarked-7.ensures,
+      c.all-six.ensures,
+      c.unmarked-6.ensures,
+      c.unmarked-5.ensures,
+      c.all-four.ensures,
+      c.unmarked-4.ensures,
+      c.unmarked-3.ensures,
+      c.both-two.ensures,
+      c.unmarked-2.ensures,
+      c.unmarked.ensures,
+    )

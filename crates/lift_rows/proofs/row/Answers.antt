@@ -45,7 +45,9 @@ pub loop-x-preserved : goal.loop-x-preserved
 loop-x-preserved c =
     let at-loop = c.loop-x in
     let far = c.cells_end-from.ensures in
-    let skip = run_skip _ _ _ at-loop.x c.cells_end-from.result _ _ far.ahead (far-all c.args.plan c.requires.0.sound.planned _ c.args.y c.args.numbers c.args.bytes c.args.frames c.args.work _ _ refl far.alike) in
+    let a = c.args in
+    let skip = run_skip _ _ _ at-loop.x c.cells_end-from.result _ _ far.ahead
+    (far-all a.plan c.requires.0.sound.planned _ a.y a.numbers a.bytes a.frames a.work _ _ refl far.alike) in
     (c.near_run-counted.ensures.on _ _ (skip.on _ _ at-loop.invariant.0), c.cells_end-to.ensures.within, c.near_run-counted.auto.output ∙ at-loop.invariant.2)
 
 pub returns : goal.returns
