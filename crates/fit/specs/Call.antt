@@ -1,7 +1,7 @@
 -- What fit asks for on the way, and what it leaves.
 use Rattle.std.specs.Prelude.{◌≡◌, false, List, ℕ, ◌*◌, ◌≤◌, ℤ, length, Float}
 use Rattle.rules.specs.declared.Answer.{Answer}
-use Rattle.rules.specs.Forms.{Part, Parts, Fit, uncounted, tabulate, cells}
+use Rattle.rules.specs.Forms.{Part, Parts, uncounted, tabulate, cells}
 use Rattle.rules.specs.Float.{◌⊗◌}
 use Rattle.rules.specs.Calls.{FitCall}
 use Rattle.rules.specs.Refusals.{fit_refusal}

@@ -1,5 +1,7 @@
 // Fit: the window, keeping, distances and assembly, one after the other. The nine slices `sums` are luma's and those of
 // planes 1 and 2 of the previous part, of the own and of the next; `pairs` are the pairs of these parts.
+#![tactic(auto)]
+
 ghost use Rattle.std.specs.Prelude.{◌≡◌};
 ghost use Rattle.rules.specs.Refusals.{fit_refusal};
 ghost use Rattle.rules.specs.Fit.{fit_leaves};
