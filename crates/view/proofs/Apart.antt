@@ -33,5 +33,7 @@ module _ (α : NamedLft) (d : View) where
     module _ {M : Type 1} {𝓤 : Ura M} (𝓛 : Logic 𝓤) where
       pub apart : ent 𝓤 (sem 𝓛 Shut) (sem 𝓛 Open)
       apart =
-          qed 𝓛 (‵ Shut ∷ []) ∵ fsplit ! $ use1 𝓛 (given (T'.lowered d ∷ [] ≡ T'.lowered d ∷ []) (‵ (all_own (T.the_type α).parts (T'.the_laws α) (d.bytes, (d.pitch, tt))))) (own_open 𝓛 (T.the_type α) (T'.the_laws α) (d.bytes, (d.pitch, tt)) (T'.lowered d)) $
+          qed 𝓛 (‵ Shut ∷ []) ∵ fsplit ! $ use1 𝓛
+          (given (T'.lowered d ∷ [] ≡ T'.lowered d ∷ []) (‵ (all_own (T.the_type α).parts (T'.the_laws α) (d.bytes, (d.pitch, tt)))))
+          (own_open 𝓛 (T.the_type α) (T'.the_laws α) (d.bytes, (d.pitch, tt)) (T'.lowered d)) $
           learn ! (λ _. fsplit ! $ move ! (1 ∷ []) $ fsplit ! $ keep ! (2 ∷ 0 ∷ 3 ∷ []) $ done !)

@@ -14,8 +14,8 @@ use denote.RattleType.{RattleType}
 use denote.Array.{Array, array_vals, Array-Lawful}
 use denote.Struct.Laws as LL
 use denote.Builtin.{u8, i16}
-use denote.Ref.{Bor}
-use denote.Slice.{MutSlice, ShrSlice, shr_slice_vals, mut_slice_Lawful, shr_slice_Lawful}
+use denote.Ref.{Bor, MutBor}
+use denote.Slice.{MutSlice, ShrSlice, shr_slice_vals, mut_slice_vals, mut_slice_Lawful, shr_slice_Lawful}
 use Rattle.layer_lent.specs.declared.Shape.{Shape}
 use Rattle.layer_lent.specs.Lent.{Numbers, Bytes}
 use Rattle.layer_lent.specs.contracts.Shape as S
@@ -25,9 +25,9 @@ module _ (κ₀ κ₁ κ₂ : Lft) where
   abbrev pub tokens : (q₀ q₁ q₂ : Share) → List Fml
   tokens q₀ q₁ q₂ = flft κ₀ q₀ ∷ flft κ₁ q₁ ∷ flft κ₂ q₂ ∷ []
 
-  abbrev pub carried : (output : Bor (List ℕ)) (s : Shape) (numbers : Numbers) (bytes : Bytes) → List Fml
+  abbrev pub carried : (output : MutBor (List ℕ)) (s : Shape) (numbers : Numbers) (bytes : Bytes) → List Fml
   carried output s numbers bytes =
-      (MutSlice (named 0) κ₀ u8).own_val output (shr_slice_vals output)
+      (MutSlice (named 0) κ₀ u8).own_val output (mut_slice_vals output)
       ∷ (S.the_row).own_val s (S'.lowered s ∷ [])
       ∷ (Array (ShrSlice (named 1) κ₁ i16) 3).own_val numbers (array_vals shr_slice_vals numbers)
       ∷ (Array (ShrSlice (named 2) κ₂ u8) 3).own_val bytes (array_vals shr_slice_vals bytes)

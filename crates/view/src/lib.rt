@@ -1,6 +1,7 @@
 // A byte plane with its pitch travels as one borrowed view. `peel_view` and `unpeel_views` take views and call the
-// slice versions; `peel_of` and `unpeel_of`, of plain parameters, are for every other caller. The borrow checker covers
-// no function over a struct that holds a reference, so each is proved by a walk of its MIR, by hand.
+// slice versions; `peel_of` and `unpeel_of`, of plain parameters, are for every other caller.
+#![tactic(auto)]
+
 ghost use Rattle.std.specs.Prelude.{◌≡◌};
 ghost use Rattle.peel.specs.Call.{peel_of, unpeel_of, Peeled, Unpeeled};
 ghost use Rattle.view.specs.Viewed.{peel_seen, unpeel_seen};
