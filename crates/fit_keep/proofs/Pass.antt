@@ -91,7 +91,8 @@ module _ (rough : List Fitted) (size : ℕ × ℕ) (kept₀ : List ℕ) (many : 
         (record {
           kept_long = length-set s.0 n (byte_of v) ∙ done.kept_long;
           cover_long = long (is_marked v) s.1 here ∙ done.cover_long;
-          past = λ k h. ⊎_elim (λ q. rw q (get_or-set_same s.0 n (byte_of v) 0 (omega (arith, done.kept_long)) ∙ code false (ne_eqb _ _ found))) (λ b. get_or-set_other s.0 n k (byte_of v) 0 (λ q. omega arith) ∙ done.past k b) (last k n h);
+          past = λ k h. ⊎_elim (λ q. rw q (get_or-set_same s.0 n (byte_of v) 0 (omega (arith, done.kept_long)) ∙ code false (ne_eqb _ _ found)))
+              (λ b. get_or-set_other s.0 n k (byte_of v) 0 (λ q. omega arith) ∙ done.past k b) (last k n h);
           rest = λ k h. get_or-set_other s.0 n k (byte_of v) 0 (λ q. omega arith) ∙ done.rest k (omega arith);
           cells_are = λ cell h. rw (marks_is rough size n cell) (cell_more s.1 here cell (is_marked v) (any n (marks rough size cell)) (omega (arith, done.cover_long)) (done.cells_are cell h));
         })

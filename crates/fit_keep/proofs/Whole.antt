@@ -105,11 +105,18 @@ module _ (models : List Float) (kept₀ cover₀ : List ℕ) (width height : ℕ
       done : Passed rough (width, height) kept₀ many (width * height) (kept', cover')
       done =
           rw (e, scan_flat (step rough (width, height)) width height (kept₀, blank), mul_comm height width)
-          (passed rough (width, height) kept₀ many blank (length-replicate (length cover₀) 255 ∙ sound.cover_long) (λ cell h. get_or-replicate (length cover₀) cell 255 0 (omega (arith, sound.cover_long))) plain (width * height) (omega (arith, sound.kept_long)))
+          (passed rough (width, height) kept₀ many blank (length-replicate (length cover₀) 255 ∙ sound.cover_long)
+          (λ cell h. get_or-replicate (length cover₀) cell 255 0 (omega (arith, sound.cover_long))) plain (width * height) (omega (arith, sound.kept_long)))
 
       at_each : (k : ℕ) → k < width * height → model_at models' k ≡ cond (kept rough (width, height) k) (get_or rough k unfitted) unfitted
       at_each k h =
           let inside : k < length kept' = omega (arith, done.kept_long, sound.kept_long) in
           let old : k < length kept₀ = omega (arith, sound.kept_long) in
-          rw (f, reset_at_lem kept' models (omega (arith, done.kept_long, sound.kept_long, sound.models_long)) k inside, done.past k h, model-at models (width * height) k h, kept_is rough (width, height) k)
+          rw (
+            f,
+            reset_at_lem kept' models (omega (arith, done.kept_long, sound.kept_long, sound.models_long)) k inside,
+            done.past k h,
+            model-at models (width * height) k h,
+            kept_is rough (width, height) k,
+          )
           (settled (eqb (get_or kept₀ k 0) 0) (verdict_of rough (width, height) k) (model_at models k) (λ z. flagged k old (eqb-true _ _ z)))
