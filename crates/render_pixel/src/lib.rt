@@ -1,4 +1,6 @@
 // What render sees at a pixel: each frame where the pixel moves, and both at the pixel itself.
+#![tactic(auto)]
+
 ghost use Rattle.std.specs.Prelude.{◌≡◌};
 ghost use Rattle.rules.specs.Literals.{0·0};
 ghost use Rattle.rules.specs.Float.{◌≼◌};

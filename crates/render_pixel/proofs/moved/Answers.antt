@@ -1,0 +1,30 @@
+-- What is left to answer of `render_pixel::moved`'s goals. `render_pixel::moved` meets its contract, by its callees'.
+use Rattle.rules.specs.Scene.{under, scene}
+use Rattle.rules.specs.Render.{moved as moved_of}
+use Rattle.layer_lent.specs.Lent.{lay}
+use Rattle.layer_point.proofs.Points.{model_is, sample_is, across_is, down_is}
+use Rattle.render_pixel.proofs.moved.Goals as goal
+
+pub returns : goal.returns
+unfolding moved_of scene under
+returns c =
+    let a = c.args in
+    let h = c.requires.0.lies.sound.planned in
+    let l = lay a.plan.shape a.numbers a.bytes in
+    let wide = across_is a.plan h in
+    let tall = down_is a.plan h in
+    rw (
+      c.is_on.ensures,
+      c.filled.ensures,
+      c.lifted-under.ensures,
+      c.sample_at-value.ensures,
+      c.model_by-model.ensures,
+      c.between-down.ensures.is,
+      c.between-across.ensures.is,
+      model_is a.plan l a.plan.shape.plane wide tall _ _,
+      sample_is a.plan l a.plan.shape.plane wide tall _ _ _,
+      c.shifted-v.ensures.is,
+      c.shifted-u.ensures.is,
+      wide,
+      tall,
+    )
