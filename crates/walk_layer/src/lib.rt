@@ -1,5 +1,7 @@
 // A layer that is taken from a walk: the tests, and fit on the parts of its chunk and of the chunks beside it. The nine
 // slices `sums` are luma's and those of planes 1 and 2 of slot 0, of slot 1 and of slot 2.
+#![tactic(auto)]
+
 ghost use Rattle.std.specs.Prelude.{◌≡◌, [], ◌∷◌, ◌&&◌};
 ghost use Rattle.rules.specs.Forms.{Parts};
 ghost use Rattle.rules.specs.Refusals.{◌unless◌, first_fitting, work_rows};
