@@ -51,7 +51,8 @@ module _ (parts : Parts) (g : Sizes) (settings : Settings) (models : List Float)
         models_long = simp length-set past.models_long;
         kept_long = simp length-set past.kept_long;
         models_are = λ k h. ⊎_elim (λ q. rw q same) (λ b. put_other s.0 n m.model.gain m.model.offset m.chroma.0 m.chroma.1 k (λ q. omega arith) ∙ past.models_are k b) (last k n h);
-        flags_are = λ k h. ⊎_elim (λ q. rw q (get_or-set_same s.1 n (flag_of (found_at n)) 0 (omega (arith, past.kept_long)))) (λ b. get_or-set_other s.1 n k (flag_of (found_at n)) 0 (λ q. omega arith) ∙ past.flags_are k b) (last k n h);
+        flags_are = λ k h. ⊎_elim (λ q. rw q (get_or-set_same s.1 n (flag_of (found_at n)) 0 (omega (arith, past.kept_long))))
+            (λ b. get_or-set_other s.1 n k (flag_of (found_at n)) 0 (λ q. omega arith) ∙ past.flags_are k b) (last k n h);
       }
 
   pasts : (n : ℕ) → n ≤ length kept → Past n (turns (search parts g settings) n (models, kept))
