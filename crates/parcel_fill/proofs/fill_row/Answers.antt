@@ -1,14 +1,9 @@
--- What is left of `parcel_fill::fill_row`: the cells of a row lie within the payload, and stand at the row's beginning.
-use Rattle.std.proofs.Common.{◌≡◌, ℕ, ◌*◌, ◌≤◌, ◌<◌, arith}
-use native.Mathlib.Nat.{mul-le-mul}
+-- What is left of `parcel_fill::fill_row`: the cells stand at a row's beginning, and below them there is none.
+use Rattle.std.proofs.Common.{◌≤◌, ◌<◌, arith}
 use Rattle.rules.specs.Forms.{cells}
 use Rattle.table.proofs.Put.{put_as}
 use Rattle.parcel_fill.proofs.Rows.{row_below, row_put}
 use Rattle.parcel_fill.proofs.fill_row.Goals as goal
-
--- the row's cells are few
-small : (y wide n : ℕ) → y ≤ 4096 → wide ≡ n → n ≤ 4096 → y * wide ≤ 4096 * 4096
-small y wide n low e narrow = let few : wide ≤ 4096 = omega arith in mul-le-mul low few
 
 pub returns-then-y-cells : goal.returns-then-y-cells
 returns-then-y-cells c =

@@ -1,4 +1,4 @@
--- What is left of `parcel_fill::fill_rows`: the invariant at its beginning, a row's place, and one row more.
+-- What is left of `parcel_fill::fill_rows`: the invariant at its beginning, and one row more.
 use Rattle.std.proofs.Common.{arith}
 use native.Mathlib.Nat.{zero-mul}
 use Rattle.table.proofs.Put.{table_none}
