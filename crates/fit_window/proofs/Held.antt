@@ -51,7 +51,8 @@ module _ (sums : Slices Float) (c : Counts) (at : ℕ) where
   one = around (sums_of c.previous previous at) (sums_at own at) (sums_of c.next next at) c
 
   one-total : (t : Trial) (k : ℕ)
-      → total_of (has_previous t && present whole.previous) (has_next t && present whole.next) (entry_of c.previous previous (at * 6 + k)) (get_or own (at * 6 + k) nan) (entry_of c.next next (at * 6 + k))
+      → total_of (has_previous t && present whole.previous) (has_next t && present whole.next) (entry_of c.previous previous (at * 6 + k)) (get_or own (at * 6 + k) nan)
+      (entry_of c.next next (at * 6 + k))
       ≡ total whole t (sum at k)
   unfolding total
   one-total t k =
