@@ -1,5 +1,7 @@
 // The rows of a frame made between two others, with the layer laid on: row by row, in a row cell by cell.
 // The layer is lent as numbers; `bytes` is for its readers, which do not look at it then.
+#![tactic(auto)]
+
 ghost use Rattle.std.specs.Prelude.{◌≡◌};
 ghost use Rattle.layer_lent.specs.Lent.{Inside};
 ghost use Rattle.layer_cell.specs.Cells.{CellEnd};

@@ -1,0 +1,22 @@
+-- What is left to answer of `render_rows::render_row`'s goals.
+use mathlib.Core.Path.{◌∙◌}
+use Rattle.motion.proofs.Fields.{same_rows}
+use Rattle.render_rows.proofs.render_row.Goals as goal
+
+pub around-carried-requires : goal.around-carried-requires
+around-carried-requires c =
+    let rows = c.row_taps-down.ensures in
+    let moves = c.requires.0.moves in
+    (record { laid = moves.laid; forward = moves.forward; backward = moves.backward }, record { first_in = rows.first_in; second_in = rows.second_in }, c.column_taps-across.ensures.first_in)
+
+pub render_cells-requires : goal.render_cells-requires
+render_cells-requires c =
+    let j = c.args.job in
+    let rows = c.row_taps-down.ensures in (
+      c.requires.0,
+      c.requires.1,
+      record {
+        rows = record { is = rows.is ∙ same_rows c.args.fields j.grid j.plan.span c.args.y; first_in = rows.first_in; second_in = rows.second_in };
+        holds = c.around-carried.ensures.holds;
+      },
+    )

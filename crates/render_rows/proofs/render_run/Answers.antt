@@ -1,0 +1,38 @@
+-- What is left to answer of `render_rows::render_run`'s goals.
+use mathlib.Core.Path.{refl, ◌∙◌}
+use native.Mathlib.Nat.{le_antisymm}
+use native.Mathlib.Omega.{arith}
+use mir.Facts.{to_z-of_z}
+use Rattle.render_rows.proofs.Runs.{run_join, part_asks}
+use Rattle.lift_rows.proofs.Cells.{run_none}
+use Rattle.render_rows.proofs.Changes.{near-part}
+use Rattle.render_rows.proofs.render_run.Goals as goal
+
+pub loop-x-init : goal.loop-x-init
+loop-x-init c =
+    (record { row = run_none _ _ _ _ _ _; holds = c.requires.2.holds }, omega arith, omega (arith, c.requires.1.ahead), refl)
+
+pub render_pixel-last-requires : goal.render_pixel-last-requires
+render_pixel-last-requires c =
+    let inv = c.loop-x.invariant in
+    let below = c.loop-x-test.true in (
+      c.requires.0,
+      part_asks _ _ _ _ (omega arith) c.requires.1 inv.1 (omega arith) inv.3 inv.0.row.few,
+      record { rows = c.requires.2.rows; holds = inv.0.holds },
+      rw (to_z-of_z c.ranges.distance) (near-part _ _ c.requires.3 inv.1 (omega arith)),
+    )
+
+pub loop-x-preserved : goal.loop-x-preserved
+loop-x-preserved c =
+    let done = c.render_pixel-last in
+    let inv = c.loop-x.invariant in (
+      record { row = run_join inv.1 (omega arith) inv.0.row done.ensures.row; holds = done.ensures.holds },
+      omega (arith, inv.1),
+      omega (arith, c.loop-x-test.true),
+      done.auto.output ∙ inv.3,
+    )
+
+pub returns : goal.returns
+returns c =
+    let at-loop = c.loop-x in
+    rw (le_antisymm at-loop.invariant.2 c.loop-x-test.false) at at-loop.invariant.0
