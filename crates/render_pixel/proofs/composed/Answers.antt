@@ -1,5 +1,4 @@
--- What is left to answer of `render_pixel::composed`'s goals. `render_pixel::composed` meets its contract, by its
--- callees'.
+-- What is left to answer of `render_pixel::composed`'s goals.
 use mathlib.Core.Path.{ap}
 use native.Mathlib.Omega.{arith}
 use mir.Facts.{to_z-of_z}

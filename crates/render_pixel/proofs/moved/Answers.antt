@@ -1,4 +1,4 @@
--- What is left to answer of `render_pixel::moved`'s goals. `render_pixel::moved` meets its contract, by its callees'.
+-- What is left to answer of `render_pixel::moved`'s goals.
 use Rattle.rules.specs.Scene.{under, scene}
 use Rattle.rules.specs.Render.{moved as moved_of}
 use Rattle.layer_lent.specs.Lent.{lay}

@@ -1,4 +1,4 @@
--- What is left to answer of `render_pixel::seen`'s goals. `render_pixel::seen` meets its contract, by its callees'.
+-- What is left to answer of `render_pixel::seen`'s goals.
 use mir.Facts.{to_z-of_z}
 use Rattle.render_pixel.specs.Shown.{seen_by}
 use Rattle.render_pixel.proofs.seen.Goals as goal
