@@ -1,4 +1,6 @@
 // Render: the layer laid on a frame made between two others.
+#![tactic(auto)]
+
 ghost use Rattle.std.specs.Prelude.{◌≡◌, false, [], ◌∷◌, ℤ};
 ghost use Rattle.rules.specs.Refusals.{render_refusal};
 ghost use Rattle.render.specs.Call.{spare, render_by, Rendered};
