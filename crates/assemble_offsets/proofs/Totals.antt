@@ -13,7 +13,7 @@ use Rattle.rules.specs.Forms.{turns, scan_row, scan}
 use Rattle.rules.specs.Float.{◌⊘◌, float}
 use Rattle.rules.specs.Assembly.{stored_offset, offset_of, model_slice, chroma_total}
 use Rattle.table.proofs.Turns.{turns_same}
-use Rattle.table.proofs.Models.{model-at}
+use Rattle.table.proofs.Models.{model_at_lem}
 use Rattle.assemble_offsets.specs.declared.Sizes.{Sizes}
 use Rattle.assemble_offsets.specs.Sizes.{Formed, ModelsLong, Block, RowFits, term_of, row_total, block_total}
 use Rattle.assemble_offsets.proofs.Signed.{row_size}
@@ -25,8 +25,8 @@ pub offset_at : (s : List Float) (pixels plane at : ℕ) → (1 ≤ plane) × (p
 offset_at s pixels plane at is inside = go (eq-or-lt_of_le is.1)
   where
     go : (plane ≡ 2) ⊎ (plane < 2) → offset_of (model_slice s pixels) plane at ≡ get_or s (at * 4 + (1 + plane)) nan
-    go (inl e) = rw (e, model-at s pixels at inside)
-    go (inr h) = let e : plane ≡ 1 = omega arith in rw (e, model-at s pixels at inside)
+    go (inl e) = rw (e, model_at_lem s pixels at inside)
+    go (inr h) = let e : plane ≡ 1 = omega arith in rw (e, model_at_lem s pixels at inside)
 
 -- a total as it is summed
 module _ (sizes : Sizes) (f : Formed sizes) (s : List Float) (plane x y : ℕ) (b : Block sizes plane x y) where

@@ -13,22 +13,22 @@ use Rattle.distances.specs.Pass.{Within, Smooth}
 -- ---- columns and rows
 
 -- the distance is at most m exactly when columns and rows are
-max-within : (a b c d m : ℕ) → max (max a b) (max c d) ≤ m → (a ≤ m) × (b ≤ m) × (c ≤ m) × (d ≤ m)
-max-within a b c d m h = omega arith
+max_within : (a b c d m : ℕ) → max (max a b) (max c d) ≤ m → (a ≤ m) × (b ≤ m) × (c ≤ m) × (d ≤ m)
+max_within a b c d m h = omega arith
 
-within-max : (a b c d m : ℕ) → a ≤ m → b ≤ m → c ≤ m → d ≤ m → max (max a b) (max c d) ≤ m
-within-max a b c d m p q r s = omega arith
+within_max : (a b c d m : ℕ) → a ≤ m → b ≤ m → c ≤ m → d ≤ m → max (max a b) (max c d) ≤ m
+within_max a b c d m p q r s = omega arith
 
 unsub : (a b m : ℕ) → a - b ≤ m → a ≤ b + m
 unsub a b m h = omega arith
 
 pub chess→ : (w m i j : ℕ) → chess w i j ≤ m → Within w m i j
 chess→ w m i j h =
-    let e = max-within (i % w - j % w) (j % w - i % w) (i / w - j / w) (j / w - i / w) m h in
+    let e = max_within (i % w - j % w) (j % w - i % w) (i / w - j / w) (j / w - i / w) m h in
     record { xa = unsub _ _ _ e.0; xb = unsub _ _ _ e.1; ya = unsub _ _ _ e.2; yb = unsub _ _ _ e.3 }
 
 pub →chess : (w m i j : ℕ) → Within w m i j → chess w i j ≤ m
-→chess w m i j t = within-max (i % w - j % w) (j % w - i % w) (i / w - j / w) (j / w - i / w) m (omega arith) (omega arith) (omega arith) (omega arith)
+→chess w m i j t = within_max (i % w - j % w) (j % w - i % w) (i / w - j / w) (j / w - i / w) m (omega arith) (omega arith) (omega arith) (omega arith)
 
 -- the cell in column x of row y, of h rows
 pub spot : (w h x y i : ℕ) → x < w → y < h → i ≡ y * w + x → (i < h * w) × (i % w ≡ x) × (i / w ≡ y)
@@ -110,12 +110,12 @@ nearest_top : (old : List ℕ) (w k : ℕ) → nearest_to old w k ≤ 255
 unfolding nearest_to
 nearest_top old w k = least_small (λ j. get_or old j 0 + chess w k j) (whole old w)
 
-nearest-at : (old : List ℕ) (w k j m : ℕ) → j < whole old w → Within w m k j → nearest_to old w k ≤ get_or old j 0 + m
+nearest_at : (old : List ℕ) (w k j m : ℕ) → j < whole old w → Within w m k j → nearest_to old w k ≤ get_or old j 0 + m
 unfolding nearest_to
-nearest-at old w k j m h t = omega (arith, least_at (λ i. get_or old i 0 + chess w k i) (whole old w) j h, →chess w m k j t)
+nearest_at old w k j m h t = omega (arith, least_at (λ i. get_or old i 0 + chess w k i) (whole old w) j h, →chess w m k j t)
 
 pub nearest_own : (old : List ℕ) (w k : ℕ) → k < whole old w → nearest_to old w k ≤ get_or old k 0
-nearest_own old w k h = let e = nearest-at old w k k 0 h (omega arith) in omega arith
+nearest_own old w k h = let e = nearest_at old w k k 0 h (omega arith) in omega arith
 
 further : (w m i j k : ℕ) → Within w 1 i k → Within w m k j → Within w (m + 1) i j
 further w m i j k s t = record { xa = omega arith; xb = omega arith; ya = omega arith; yb = omega arith }
@@ -125,7 +125,7 @@ pub nearest_smooth : (old : List ℕ) (w i j : ℕ) → Within w 1 i j → neare
 unfolding nearest_to
 nearest_smooth old w i j t =
     least_glb (λ k. get_or old k 0 + chess w j k) (whole old w) 1 (nearest_to old w i) (omega (arith, nearest_top old w i))
-    (λ k l. omega (arith, nearest-at old w i k (chess w j k + 1) l (further w (chess w j k) i k j t (chess→ w (chess w j k) j k (omega arith)))))
+    (λ k l. omega (arith, nearest_at old w i k (chess w j k + 1) l (further w (chess w j k) i k j t (chess→ w (chess w j k) j k (omega arith)))))
 
 -- cells that are nowhere above the old ones, nowhere below the nearest, at most 255 and smooth, are the nearest
 pub exact : (old cells : List ℕ) (w : ℕ) → 0 < w

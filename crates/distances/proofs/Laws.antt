@@ -12,7 +12,7 @@ use lib.ListN.{length, get_or}
 use lib.Seq.{ext_get_or}
 use borrow.Author.Tests.{lt-ltb, le-ltb}
 use Rattle.rules.specs.Distances.{whole, nearest_to, distances}
-use Rattle.laws.proofs.Lists.{length-tabulate, get_d_tabulate}
+use Rattle.laws.proofs.Lists.{length-tabulate, get_or-tabulate}
 use Rattle.distances.specs.Level.{Level}
 use Rattle.distances.proofs.Grid.{chess→, →chess, nearest_own, nearest_smooth, exact}
 -- ---- (a) the cells grow with the old ones
@@ -24,12 +24,12 @@ pub length-distances : (old : List ℕ) (w : ℕ) → length (distances old w) �
 unfolding distances
 length-distances old w = length-tabulate _ _
 
-distances-at : (old : List ℕ) (w k : ℕ) → k < length old → get_or (distances old w) k 0 ≡ cond (ltb k (whole old w)) (nearest_to old w k) (get_or old k 0)
+distances_at : (old : List ℕ) (w k : ℕ) → k < length old → get_or (distances old w) k 0 ≡ cond (ltb k (whole old w)) (nearest_to old w k) (get_or old k 0)
 unfolding distances
-distances-at old w k h = get_d_tabulate _ _ k 0 h
+distances_at old w k h = get_or-tabulate _ _ k 0 h
 
 pub inside_at : (old : List ℕ) (w k : ℕ) → k < whole old w → get_or (distances old w) k 0 ≡ nearest_to old w k
-inside_at old w k h = distances-at old w k (omega (arith, div-mul-le_self (length old) w)) ∙ rw (lt-ltb k (whole old w) h)
+inside_at old w k h = distances_at old w k (omega (arith, div-mul-le_self (length old) w)) ∙ rw (lt-ltb k (whole old w) h)
 
 -- one list alone has the nearest in the complete rows, and the old tail
 pub as_table : (old new : List ℕ) (w : ℕ) → length new ≡ length old → ((k : ℕ) → k < whole old w → get_or new k 0 ≡ nearest_to old w k)
@@ -38,7 +38,7 @@ as_table old new w same inside tail = ext_get_or 0 new (distances old w) (same �
   where
     go : (k : ℕ) → k < length old → Dec (k < whole old w) → get_or new k 0 ≡ get_or (distances old w) k 0
     go k h (yes l) = inside k l ∙ sym (inside_at old w k l)
-    go k h (no l) = tail k (omega arith) ∙ sym (distances-at old w k h ∙ rw (le-ltb k (whole old w) (omega arith)))
+    go k h (no l) = tail k (omega arith) ∙ sym (distances_at old w k h ∙ rw (le-ltb k (whole old w) (omega arith)))
 
 -- ---- (b) it alters nothing exactly where the cells are level
 

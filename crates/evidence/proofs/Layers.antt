@@ -22,7 +22,7 @@ use Rattle.rules.specs.Model.{Fitted, plain, is_plain}
 use Rattle.rules.specs.Keeping.{model_of}
 use Rattle.rules.specs.Assembly.{stored_gain, stored_offset, luma_entry, cell_entry, assembled}
 use Rattle.rules.specs.Reading.{as_left, cell, luma_gain, luma_texel}
-use Rattle.laws.proofs.Lists.{place_in, get_d_tabulate, tabulate_both}
+use Rattle.laws.proofs.Lists.{place_in, get_or-tabulate, tabulate_both}
 use Rattle.laws.proofs.Points.{stored_small}
 use Rattle.evidence.specs.Evidence.{pair, no_pair}
 use Rattle.evidence.proofs.Growth.{Grown}
@@ -49,9 +49,9 @@ offset_entry m n i =
 abbrev pub stored_pair : Model → Gain × Offset
 stored_pair m = (stored_gain m.gain, stored_offset m.offset)
 
-pub pair-plain : stored_pair plain ≡ no_pair
+pub pair_plain : stored_pair plain ≡ no_pair
 unfolding stored rounded_short rounded negative Ieee.mul Ieee.of_bits
-pair-plain = refl
+pair_plain = refl
 
 -- the layer that is assembled of models and a cover
 abbrev pub made : List Fitted → List ℕ → (size : ℕ × ℕ) → (ratio : ℕ) → Layer
@@ -66,8 +66,8 @@ module _ (m : List Fitted) (v : List ℕ) (size : ℕ × ℕ) (ratio x y : ℕ) 
       let h : i < n = place_in down across in
       rw (
         in_second x y size.0 size.1,
-        get_d_tabulate (2 * n) (luma_entry m n) i (pos 0) (omega arith),
-        get_d_tabulate (2 * n) (luma_entry m n) (n + i) (pos 0) (omega arith),
+        get_or-tabulate (2 * n) (luma_entry m n) i (pos 0) (omega arith),
+        get_or-tabulate (2 * n) (luma_entry m n) (n + i) (pos 0) (omega arith),
         gain_entry m n i h,
         offset_entry m n i,
       )
@@ -102,14 +102,14 @@ module _ (R : ℤ → ℤ → Type 0) (none : R (pos 0) (pos 0)) (v v' : List �
 abbrev pub texel_of : Gain × Offset → Model
 texel_of p = luma_texel p.0 p.1
 
-texel-plain : is_plain (texel_of no_pair) ≡ true
+texel_plain : is_plain (texel_of no_pair) ≡ true
 unfolding luma_texel is_plain Ieee.eq Ieee.div Ieee.of_int Ieee.of_bits
-texel-plain = refl
+texel_plain = refl
 
 -- a pixel that passes a test and has a texel other than (1, 0), and passes the second test too where it passes the
 -- first
-pub layered-still : (b b' : Bool) (p p' : Gain × Offset) → (T b → T b') → Grown no_pair p p' → T (b && not (is_plain (texel_of p)))
+pub layered_still : (b b' : Bool) (p p' : Gain × Offset) → (T b → T b') → Grown no_pair p p' → T (b && not (is_plain (texel_of p)))
     → T (b' && not (is_plain (texel_of p'))) × (p' ≡ p)
-layered-still b b' p p' f (inl e) t = absurd (rw (e, texel-plain) at (and_r b (not (is_plain (texel_of p))) t))
-layered-still b b' p p' f (inr e) t =
+layered_still b b' p p' f (inl e) t = absurd (rw (e, texel_plain) at (and_r b (not (is_plain (texel_of p))) t))
+layered_still b b' p p' f (inr e) t =
     (and_i b' (not (is_plain (texel_of p'))) (f (and_l b (not (is_plain (texel_of p))) t)) (rw e (and_r b (not (is_plain (texel_of p))) t)), e)

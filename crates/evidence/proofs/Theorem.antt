@@ -31,13 +31,13 @@ use Rattle.rules.specs.Unpeel.{relaid, unpeel_rule}
 use Rattle.rules.specs.Render.{own_steps, render_rule}
 use Rattle.laws.proofs.Value.{T_of}
 use Rattle.laws.proofs.Order.{le_trans_float}
-use Rattle.laws.proofs.Raster.{painted-at, counted_mono}
-use Rattle.laws.proofs.Points.{model-whole, fifth}
+use Rattle.laws.proofs.Raster.{painted_at, counted_mono}
+use Rattle.laws.proofs.Points.{model_whole, fifth}
 use Rattle.laws.proofs.Accepted.{Over, place, layer_passed}
-use Rattle.laws.proofs.Marks.{gap_lower, rendered-still}
+use Rattle.laws.proofs.Marks.{gap_lower, rendered_still}
 use Rattle.evidence.specs.Evidence.{FitTwice, layer_left, pair, no_pair, Later, peel_luma, unpeel_luma, render_plane, Run, run, Accepted, is_large, promised, KeepsRun, Keeps, DemandThree}
 use Rattle.evidence.proofs.Growth.{Grown, Grows, models_fit, cover_fit, cover_fits}
-use Rattle.evidence.proofs.Layers.{stored_pair, pair-plain, made, pair_is, gain_small, cell_both, texel_of, layered-still}
+use Rattle.evidence.proofs.Layers.{stored_pair, pair_plain, made, pair_is, gain_small, cell_both, texel_of, layered_still}
 
 -- ---- two runs of a call
 
@@ -67,8 +67,8 @@ keeps_run l plane output rule rule' n n' promise o e e' more same =
           rw (
             e,
             e',
-            painted-at rule' size output o.narrow x y w.across w.down inside,
-            painted-at rule size output o.narrow x y w.across w.down inside,
+            painted_at rule' size output o.narrow x y w.across w.down inside,
+            painted_at rule size output o.narrow x y w.across w.down inside,
             w.writes,
             again x y w.across w.down w.writes,
           )
@@ -84,10 +84,10 @@ keeps_run l plane output rule rule' n n' promise o e e' more same =
 -- ---- what a luma pixel shows
 
 -- where the gain is large, the scene is the pixel's own, lifted
-scene-at : (l : Layer) (plane : ℕ) (raw : Plane) (x y : ℕ) → x ≤ 4096 → y ≤ 4096 → T (0·2 ≼ abs (texel l plane x y).gain)
+scene_at : (l : Layer) (plane : ℕ) (raw : Plane) (x y : ℕ) → x ≤ 4096 → y ≤ 4096 → T (0·2 ≼ abs (texel l plane x y).gain)
     → scene l plane raw (float x) (float y) true ≡ Lifted (lift (sample raw (float x) (float y) (plane_size l plane)) (texel l plane x y))
 unfolding scene under lifted filled
-scene-at l plane raw x y a b t = rw (model-whole l plane x y a b, is_true (0·2 ≼ abs (texel l plane x y).gain) t)
+scene_at l plane raw x y a b t = rw (model_whole l plane x y a b, is_true (0·2 ≼ abs (texel l plane x y).gain) t)
 
 -- at least n, or at most its negative, by size
 by_size : (n : ℕ) (z : ℤ) → (le_z (pos n) z || le_z z (neg_ℤ (pos n))) ≡ true → n ≤ nat_abs z
@@ -137,15 +137,15 @@ module _ (a : Two) where
       (go _ _ (a.grows (y * a.size.0 + x)))
     where
       go : (f f' : Fitted) → Grown unfitted f f' → Grown no_pair (stored_pair f.model) (stored_pair f'.model)
-      go f f' (inl e) = inl (rw e pair-plain)
+      go f f' (inl e) = inl (rw e pair_plain)
       go f f' (inr e) = inr (rw e)
 
   cell_lower : (x y : ℕ) → T (le_z (cell l' x y) (cell l x y))
   cell_lower =
       cell_both (λ c' c. T (le_z c' c)) tt a.cover' a.cover (λ k. le→leb _ _ (a.lower k)) a.models' a.models a.size a.ratio
 
-  gap-not_larger : (plane x y : ℕ) → T (gap l' plane x y ≼ gap l plane x y)
-  gap-not_larger plane =
+  gap_not_larger : (plane x y : ℕ) → T (gap l' plane x y ≼ gap l plane x y)
+  gap_not_larger plane =
       gap_lower l l' plane refl (few a.cover' (λ k. omega (arith, a.lower k, a.small k)) a.models') (few a.cover a.small a.models) cell_lower
     where
       few : (v : List ℕ) → ((k : ℕ) → get_or v k 0 ≤ 255) → (m : List Fitted) (x y : ℕ) → nat_abs (cell (made m v a.size a.ratio) x y) ≤ 2 ^ 15
@@ -155,8 +155,8 @@ module _ (a : Two) where
   again : (x y : ℕ) → x < a.size.0 / 1 → y < a.size.1 / 1 → T (layered l 0 x y) → T (layered l' 0 x y) × (texel l' 0 x y ≡ texel l 0 x y)
   unfolding layered texel
   again x y across down t =
-      let s = layered-still (gap l 0 x y ≼ 0·0) (gap l' 0 x y ≼ 0·0) (pair l x y) (pair l' x y)
-      (le_trans_float (gap l' 0 x y) (gap l 0 x y) 0·0 (gap-not_larger 0 x y)) (pair_grown x y (omega arith) (omega arith)) t in
+      let s = layered_still (gap l 0 x y ≼ 0·0) (gap l' 0 x y ≼ 0·0) (pair l x y) (pair l' x y)
+      (le_trans_float (gap l' 0 x y) (gap l 0 x y) 0·0 (gap_not_larger 0 x y)) (pair_grown x y (omega arith) (omega arith)) t in
       (s.0, ap texel_of s.1)
 
   -- a texel's gain is large where the stored one is
@@ -171,7 +171,7 @@ module _ (a : Two) where
       → scene l' 0 raw (float x) (float y) true ≡ scene l 0 raw (float x) (float y) true
   scene_again raw x y wide tall e t =
       let t' : T (0·2 ≼ abs (texel l' 0 x y).gain) = rw e t in
-      rw (scene-at l 0 raw x y wide tall t, scene-at l' 0 raw x y wide tall t', e)
+      rw (scene_at l 0 raw x y wide tall t, scene_at l' 0 raw x y wide tall t', e)
 
   -- "Now make one call .. once on each layer"
   later : (call : Later) → Accepted (run call l) → Accepted (run call l') → KeepsRun (run call l) (run call l') (promised call l)
@@ -191,7 +191,7 @@ module _ (a : Two) where
   later (render_plane plane output frames motion algo) e e' =
       keeps_run l plane output (render_rule l plane frames motion algo) (render_rule l' plane frames motion algo) _ _
       (promised (render_plane plane output frames motion algo) l) (layer_passed l plane output _ _ e refl) e e'
-      (λ x y across down. rendered-still _ _ (gap l plane x y) (gap l' plane x y) (gap-not_larger plane x y))
+      (λ x y across down. rendered_still _ _ (gap l plane x y) (gap l' plane x y) (gap_not_larger plane x y))
       (λ x y across down t p. absurd (false≢true p))
 
   keeps : Keeps l l'

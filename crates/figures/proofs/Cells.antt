@@ -7,5 +7,5 @@ pub sides : Sides
 unfolding distance
 sides = (refl, refl, refl, refl, refl, refl, refl, refl, refl)
 
-pub marked-cell : MarkedCell
-marked-cell = (refl, refl, refl, refl, refl)
+pub marked_cell : MarkedCell
+marked_cell = (refl, refl, refl, refl, refl)

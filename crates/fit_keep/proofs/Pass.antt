@@ -17,7 +17,7 @@ use Rattle.fit_near.specs.declared.Verdict.{Verdict}
 use Rattle.fit_near.specs.declared.Verdict.TheVariants.{Dropped, Unmarked, Marked}
 use Rattle.fit_near.specs.Verdict.{verdict_of}
 use Rattle.fit_keep.specs.Pass.{marked, step}
-use Rattle.fit_keep.proofs.Steps.{step_none, step-some}
+use Rattle.fit_keep.proofs.Steps.{step_none, step_some}
 use Rattle.fit_keep.proofs.Verdicts.{is_marked, byte_of, marks_is, marks_none}
 
 -- ---- one verdict
@@ -106,7 +106,7 @@ module _ (rough : List Fitted) (size : ℕ × ℕ) (kept₀ : List ℕ) (many : 
       where
         go : (b : Bool) → eqb (get_or s.0 n 0) 0 ≡ b → Passed (suc n) (step rough size n s)
         go true e = let z = eqb-true (get_or s.0 n 0) 0 e in rw (← step_none rough size n s z) (none_more z (plain (sym (done.rest n (omega arith)) ∙ z)))
-        go false e = let f = eqb-false (get_or s.0 n 0) 0 e in rw (← step-some rough size n s f) (some_more f)
+        go false e = let f = eqb-false (get_or s.0 n 0) 0 e in rw (← step_some rough size n s f) (some_more f)
 
   -- all of them
   pub passed : (cover : List ℕ) → length cover ≡ many → ((cell : ℕ) → cell < many → get_or cover cell 0 ≡ 255)

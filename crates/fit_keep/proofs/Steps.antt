@@ -20,10 +20,10 @@ unfolding step
 step_none rough size at s e = rw (eq-eqb (get_or s.0 at 0) 0 e)
 
 -- something was
-pub step-some : (rough : List Fitted) (size : ℕ × ℕ) (at : ℕ) (s : List ℕ × List ℕ) → (get_or s.0 at 0 ≡ 0 → ⊥)
+pub step_some : (rough : List Fitted) (size : ℕ × ℕ) (at : ℕ) (s : List ℕ × List ℕ) → (get_or s.0 at 0 ≡ 0 → ⊥)
     → marked (verdict_of rough size at) at (cell_of size.0 at) s ≡ step rough size at s
 unfolding step
-step-some rough size at s h = rw (ne_eqb (get_or s.0 at 0) 0 h)
+step_some rough size at s h = rw (ne_eqb (get_or s.0 at 0) 0 h)
 
 -- ---- the cell
 

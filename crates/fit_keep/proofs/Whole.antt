@@ -17,7 +17,7 @@ use Rattle.rules.specs.Keeping.{kept, cover, kept_models}
 use Rattle.rules.specs.Assembly.{model_slice}
 use Rattle.table.specs.Models.{model_at, model_put}
 use Rattle.laws.proofs.Lists.{is_table, table_same}
-use Rattle.table.proofs.Models.{model-at, put_same, put_other}
+use Rattle.table.proofs.Models.{model_at_lem, put_same, put_other}
 use Rattle.table.proofs.Turns.{scan_flat}
 use Rattle.table.proofs.Laws.{last}
 use Rattle.fit_near.specs.declared.Verdict.{Verdict}
@@ -100,7 +100,7 @@ module _ (models : List Float) (kept₀ cover₀ : List ℕ) (width height : ℕ
       blank = replicate (length cover₀) 255
 
       plain : (k : ℕ) → k < length kept₀ → get_or kept₀ k 0 ≡ 0 → get_or rough k unfitted ≡ unfitted
-      plain k h z = model-at models (width * height) k (omega (arith, sound.kept_long)) ∙ flagged k h z
+      plain k h z = model_at_lem models (width * height) k (omega (arith, sound.kept_long)) ∙ flagged k h z
 
       done : Passed rough (width, height) kept₀ many (width * height) (kept', cover')
       done =
@@ -116,7 +116,7 @@ module _ (models : List Float) (kept₀ cover₀ : List ℕ) (width height : ℕ
             f,
             reset_at_lem kept' models (omega (arith, done.kept_long, sound.kept_long, sound.models_long)) k inside,
             done.past k h,
-            model-at models (width * height) k h,
+            model_at_lem models (width * height) k h,
             kept_is rough (width, height) k,
           )
           (settled (eqb (get_or kept₀ k 0) 0) (verdict_of rough (width, height) k) (model_at models k) (λ z. flagged k old (eqb-true _ _ z)))

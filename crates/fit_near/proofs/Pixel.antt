@@ -13,7 +13,7 @@ use Rattle.rules.specs.Model.{Fitted, set, is_plain}
 use Rattle.rules.specs.Keeping.{model_of, near}
 use Rattle.rules.specs.Assembly.{model_slice}
 use Rattle.table.specs.Models.{model_at}
-use Rattle.table.proofs.Models.{model-at}
+use Rattle.table.proofs.Models.{model_at_lem}
 use Rattle.fit_near.specs.declared.Verdict.TheVariants.{Dropped, Unmarked, Marked}
 use Rattle.fit_near.specs.Verdict.{verdict_of}
 
@@ -22,7 +22,7 @@ module _ (models : List Float) (width height x y : ℕ) (left : x < width) (abov
   pixel_in = omega (arith, digits_lt above left, mul_comm height width)
 
   pub model_is : model_of (model_slice models (width * height)) (y * width + x) ≡ (model_at models (y * width + x)).model
-  model_is = ap (λ (m : Fitted). m.model) (model-at models (width * height) (y * width + x) pixel_in)
+  model_is = ap (λ (m : Fitted). m.model) (model_at_lem models (width * height) (y * width + x) pixel_in)
 
 -- one more, or not
 pub few : (b : Bool) (n m : ℕ) → n ≤ m → cond b (n + 1) n ≤ m + 1

@@ -56,10 +56,10 @@ found_plain : (same evidence : Float) (b : Best) → is_plain b.model ≡ true �
 unfolding found
 found_plain same evidence b h = rw (h, middle)
 
-pick-plain : (ps : Parts) (at : ℕ) (limit evidence : Float) (strict : Bool)
+pick_plain : (ps : Parts) (at : ℕ) (limit evidence : Float) (strict : Bool)
     → ((t : Trial) → is_plain (tried ps at limit strict t).model ≡ true) → pick ps at limit evidence strict ≡ Nothing
 unfolding pick
-pick-plain ps at limit evidence strict h =
+pick_plain ps at limit evidence strict h =
     found_plain _ evidence _ (best_of_lem (λ b. is_plain b.model ≡ true) ps at limit strict h)
 
 -- ---- three models that were made side by side
@@ -71,7 +71,7 @@ every false b c h = ((cc), (cc), (cc))
 
 module _ (ps : Parts) (limit : Float) (strict : Bool) (m : Trials) (M : Modelled ps limit strict m) where
   pub none_picked : (evidence : Float) → all_plain m ≡ true → pick ps 0 limit evidence strict ≡ Nothing
-  none_picked evidence h = pick-plain ps 0 limit evidence strict each
+  none_picked evidence h = pick_plain ps 0 limit evidence strict each
     where
       three : (is_plain m.all ≡ true) × (is_plain m.earlier ≡ true) × (is_plain m.later ≡ true)
       three = every (is_plain m.all) (is_plain m.earlier) (is_plain m.later) h

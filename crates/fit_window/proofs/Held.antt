@@ -50,17 +50,17 @@ module _ (sums : Slices Float) (c : Counts) (at : ℕ) where
   abbrev one : Parts
   one = around (sums_of c.previous previous at) (sums_at own at) (sums_of c.next next at) c
 
-  one-total : (t : Trial) (k : ℕ)
+  one_total : (t : Trial) (k : ℕ)
       → total_of (has_previous t && present whole.previous) (has_next t && present whole.next) (entry_of c.previous previous (at * 6 + k)) (get_or own (at * 6 + k) nan)
       (entry_of c.next next (at * 6 + k))
       ≡ total whole t (sum at k)
   unfolding total
-  one-total t k =
+  one_total t k =
       held (present whole.previous) (present whole.next) (has_previous t) (has_next t) (get_or previous (at * 6 + k) nan) (get_or own (at * 6 + k) nan) (get_or next (at * 6 + k) nan)
 
   one-totals : (t : Trial) → totals one t 0 ≡ totals whole t at
   unfolding total
-  one-totals t = cc (one-total t 0, one-total t 1, one-total t 2, one-total t 3, one-total t 4, one-total t 5)
+  one-totals t = cc (one_total t 0, one_total t 1, one_total t 2, one_total t 3, one_total t 4, one_total t 5)
 
   one_samples : (t : Trial) → total one t count ≡ total whole t count
   unfolding total

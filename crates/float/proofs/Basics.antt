@@ -27,20 +27,20 @@ abbrev pub origin : Float
 origin = fin false 0 (pos 0)
 
 -- what has no sign is not below 0
-pub not-below : (m : ℕ) (e : ℤ) → lt (fin false m e) origin ≡ true → ⊥
+pub not_below : (m : ℕ) (e : ℤ) → lt (fin false m e) origin ≡ true → ⊥
 unfolding lt
-not-below m e h = never (m * up e) (down e) (ltb→lt (m * up e * 1) (0 * 1 * down e) (T_of (ltb (m * up e * 1) (0 * 1 * down e)) h))
+not_below m e h = never (m * up e) (down e) (ltb→lt (m * up e * 1) (0 * 1 * down e) (T_of (ltb (m * up e * 1) (0 * 1 * down e)) h))
   where
     never : (x d : ℕ) → x * 1 < 0 * 1 * d → ⊥
     never x d h = omega arith
 
-pub abs-below : (x : Float) → lt x origin ≡ true → neg x ≡ abs_of x
+pub abs_below : (x : Float) → lt x origin ≡ true → neg x ≡ abs_of x
 unfolding lt neg abs_of
-abs-below nan h = refl
-abs-below (inf true) h = refl
-abs-below (inf false) h = absurd (false≢true h)
-abs-below (fin true m e) h = refl
-abs-below (fin false m e) h = absurd (not-below m e h)
+abs_below nan h = refl
+abs_below (inf true) h = refl
+abs_below (inf false) h = absurd (false≢true h)
+abs_below (fin true m e) h = refl
+abs_below (fin false m e) h = absurd (not_below m e h)
 
 -- a zero is written in one way
 exponent : (e : ℤ) → T (eqb (up e * down e) 1) → e ≡ pos 0
@@ -54,12 +54,12 @@ exponent (negsuc k) t = absurd (past (2 ^ suc k) (pow-lt (zero-lt-suc k)) (eqb�
     past : (n : ℕ) → 1 < n → 1 * n ≡ 1 → ⊥
     past n h e = omega arith
 
-pub abs-zero : (x : Float) → T (fits binary32 x) → eq x origin ≡ true → origin ≡ abs_of x
+pub abs_zero : (x : Float) → T (fits binary32 x) → eq x origin ≡ true → origin ≡ abs_of x
 unfolding eq abs_of fits
-abs-zero nan F h = absurd (false≢true h)
-abs-zero (inf s) F h = absurd (false≢true h)
-abs-zero (fin s zero e) F h = ap (λ (k : ℤ). fin false 0 k) (sym (exponent e F))
-abs-zero (fin s (suc m) e) F h =
+abs_zero nan F h = absurd (false≢true h)
+abs_zero (inf s) F h = absurd (false≢true h)
+abs_zero (fin s zero e) F h = ap (λ (k : ℤ). fin false 0 k) (sym (exponent e F))
+abs_zero (fin s (suc m) e) F h =
     let x = suc m * up e * 1 in
     let y = 0 * 1 * down e in
     absurd (never (suc m * up e) (down e) (mul-pos (zero-lt-suc m) (up_pos e)) (eqb→eq x y (and_l (eqb x y) (beq s false || eqb x 0) (T_of (eqb x y && (beq s false || eqb x 0)) h))))
@@ -67,13 +67,13 @@ abs-zero (fin s (suc m) e) F h =
     never : (x d : ℕ) → 0 < x → x * 1 ≡ 0 * 1 * d → ⊥
     never x d h k = omega arith
 
-pub abs-above : (x : Float) → lt x origin ≡ false → eq x origin ≡ false → x ≡ abs_of x
+pub abs_above : (x : Float) → lt x origin ≡ false → eq x origin ≡ false → x ≡ abs_of x
 unfolding lt eq abs_of
-abs-above nan a b = refl
-abs-above (inf true) a b = absurd (true≢false a)
-abs-above (inf false) a b = refl
-abs-above (fin false m e) a b = refl
-abs-above (fin true m e) a b =
+abs_above nan a b = refl
+abs_above (inf true) a b = absurd (true≢false a)
+abs_above (inf false) a b = refl
+abs_above (fin false m e) a b = refl
+abs_above (fin true m e) a b =
     let x = m * up e * 1 in
     let y = 0 * 1 * down e in
     let l : x + y ≤ 0 = nltb→le 0 (x + y) (not_of (ltb 0 (x + y)) a) in

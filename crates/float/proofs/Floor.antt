@@ -17,7 +17,7 @@ use lib.Ieee.Back.{unsigned_back}
 use lib.Arith.{le→nltb}
 use Rattle.rules.specs.Float.{negative}
 use Rattle.laws.proofs.Value.{cut_of_value, T_of, not_of}
-use Rattle.laws.proofs.Order.{not-lt_of_le, le_of_not_lt}
+use Rattle.laws.proofs.Order.{not_lt_of_le, le_of_not_lt}
 use Rattle.laws.proofs.Whole.{le_by_values, values_by_le, int_value, add_at, sum_int}
 use Rattle.float.proofs.Index.{int_no_nan}
 
@@ -117,7 +117,7 @@ floored_at m e U =
       r = r;
       is = is;
       small = R;
-      more = λ t. above fl q lo hi (λ h. not-lt_of_le (of_int binary32 (pos r)) x
+      more = λ t. above fl q lo hi (λ h. not_lt_of_le (of_int binary32 (pos r)) x
           (le_by_values (of_int binary32 (pos r)) x false r 1 false A D (zero-lt-suc 0) (down_pos e) v (refl, refl)
           (le_trans (mul-le-mul_right D h) (le_trans (div-mul-le_self A D) (le_of_eq (sym (mul-one A))))))
           (subst (λ (y : Float). T (lt x y)) is (T_of (lt x (there_and_back x)) t))) ∙ ap suc (sym c);

@@ -12,7 +12,7 @@ use lib.Ieee.Fits.{down_pos}
 use lib.Ieee.Bits.{is_true}
 use Rattle.rules.specs.Float.{nearest, negative, rounded as size_to}
 use Rattle.float.specs.Nearest.{size_of}
-use Rattle.float.proofs.Basics.{origin, not-below}
+use Rattle.float.proofs.Basics.{origin, not_below}
 use Rattle.laws.proofs.Value.{not_of, T_of}
 
 under : (A d L : ℕ) → 0 < d → A < L * d → (2 * A + d) / (2 * d) ≤ L
@@ -42,9 +42,9 @@ none L m e h =
     omega arith
 
 -- what has no sign and is not above 0 is a zero
-not-over : (m : ℕ) (e : ℤ) → lt origin (fin false m e) ≡ false → m * up e ≤ 0
+not_over : (m : ℕ) (e : ℤ) → lt origin (fin false m e) ≡ false → m * up e ≤ 0
 unfolding lt
-not-over m e a = omega (arith, nltb→le (0 * 1 * down e) (m * up e * 1) (not_of (ltb (0 * 1 * down e) (m * up e * 1)) a))
+not_over m e a = omega (arith, nltb→le (0 * 1 * down e) (m * up e * 1) (not_of (ltb (0 * 1 * down e) (m * up e * 1)) a))
 
 -- above 0 and below L
 pub record Inside (L : ℕ) (x : Float) : Type 0 where
@@ -79,13 +79,13 @@ past L (fin false m e) a b =
     record { same = at_end (nearest m e) L (over (m * up e) (down e) L (down_pos e) (rw (mul-one, mul-one) at l)); sign = refl }
 
 -- not above 0
-pub not-above : (L : ℕ) (x : Float) → lt origin x ≡ false → cond (negative x) 0 (size_to L x) ≡ 0
+pub not_above : (L : ℕ) (x : Float) → lt origin x ≡ false → cond (negative x) 0 (size_to L x) ≡ 0
 unfolding lt size_to negative
-not-above L nan a = refl
-not-above L (inf true) a = refl
-not-above L (inf false) a = absurd (true≢false a)
-not-above L (fin true m e) a = refl
-not-above L (fin false m e) a = none L m e (not-over m e a)
+not_above L nan a = refl
+not_above L (inf true) a = refl
+not_above L (inf false) a = absurd (true≢false a)
+not_above L (fin true m e) a = refl
+not_above L (fin false m e) a = none L m e (not_over m e a)
 
 -- ---- the other side of 0
 pub flip_origin : (y : Float) → lt y origin ≡ true → lt origin (neg y) ≡ true
@@ -99,7 +99,7 @@ flip_origin (fin true m e) h =
   where
     more : (x d : ℕ) → 0 < x * 1 + 0 * 1 * d → 0 * 1 * d < x * 1
     more x d h = omega arith
-flip_origin (fin false m e) h = absurd (not-below m e h)
+flip_origin (fin false m e) h = absurd (not_below m e h)
 
 pub flip_end : (L : ℕ) (y : Float) → lt (fin true L (pos 0)) y ≡ lt (neg y) (fin false L (pos 0))
 unfolding lt neg
@@ -115,7 +115,7 @@ below_origin nan h = absurd (false≢true h)
 below_origin (inf true) h = refl
 below_origin (inf false) h = absurd (false≢true h)
 below_origin (fin true m e) h = refl
-below_origin (fin false m e) h = absurd (not-below m e h)
+below_origin (fin false m e) h = absurd (not_below m e h)
 
 pub size_neg : (L : ℕ) (y : Float) → size_to L (neg y) ≡ size_to L y
 unfolding size_to neg
@@ -131,4 +131,4 @@ at_origin L (inf true) a b = absurd (true≢false b)
 at_origin L (inf false) a b = absurd (true≢false a)
 at_origin L (fin true m e) a b =
     none L m e (omega (arith, nltb→le 0 (m * up e * 1 + 0 * 1 * down e) (not_of (ltb 0 (m * up e * 1 + 0 * 1 * down e)) b)))
-at_origin L (fin false m e) a b = none L m e (not-over m e a)
+at_origin L (fin false m e) a b = none L m e (not_over m e a)

@@ -10,7 +10,7 @@ use Rattle.rules.specs.Literals.{lit}
 use Rattle.rules.specs.Float.{max as max_of, clamp as clamp_of}
 use Rattle.float.proofs.Basics.{ne_self}
 use Rattle.laws.proofs.Order.{or_r, le_of_not_lt}
-use Rattle.laws.proofs.Whole.{cut-le, int_value}
+use Rattle.laws.proofs.Whole.{cut_le, int_value}
 
 pub le_refl_float : (x : Float) → T (not (is_nan x)) → T (le x x)
 unfolding le ne
@@ -41,20 +41,20 @@ unfolding of_bits to_unsigned
 cut_nought = refl
 
 -- what the upper end does not shut out is cut to at most n
-cut-under : (x : Float) (n : ℕ) → n ≤ 2 ^ 24 → T (not (lt (of_int binary32 (pos n)) x)) → to_unsigned 64 x ≤ n
-cut-under x n N h = go (is_nan x) (cut_nan x) (λ c. cut-le x n N (le_of_not_lt x (of_int binary32 (pos n)) c (int_no_nan n N) h))
+cut_under : (x : Float) (n : ℕ) → n ≤ 2 ^ 24 → T (not (lt (of_int binary32 (pos n)) x)) → to_unsigned 64 x ≤ n
+cut_under x n N h = go (is_nan x) (cut_nan x) (λ c. cut_le x n N (le_of_not_lt x (of_int binary32 (pos n)) c (int_no_nan n N) h))
   where
     go : (b : Bool) → (T b → to_unsigned 64 x ≡ 0) → (T (not b) → to_unsigned 64 x ≤ n) → to_unsigned 64 x ≤ n
     go true f g = subst (λ (k : ℕ). k ≤ n) (sym (f tt)) zero-le
     go false f g = g tt
 
-pub cut-clamp : (x : Float) (n : ℕ) → n ≤ 2 ^ 24 → to_unsigned 64 (clamp_of x (lit 0) (of_int binary32 (pos n))) ≤ n
+pub cut_clamp : (x : Float) (n : ℕ) → n ≤ 2 ^ 24 → to_unsigned 64 (clamp_of x (lit 0) (of_int binary32 (pos n))) ≤ n
 unfolding clamp_of
-cut-clamp x n N = go (lt x (lit 0)) (lt (of_int binary32 (pos n)) x) (cut-under x n N)
+cut_clamp x n N = go (lt x (lit 0)) (lt (of_int binary32 (pos n)) x) (cut_under x n N)
   where
     go : (a b : Bool) → (T (not b) → to_unsigned 64 x ≤ n) → to_unsigned 64 (cond a (lit 0) (cond b (of_int binary32 (pos n)) x)) ≤ n
     go true b f = subst (λ (k : ℕ). k ≤ n) (sym cut_nought) zero-le
-    go false true f = cut-le (of_int binary32 (pos n)) n N (le_refl_float (of_int binary32 (pos n)) (int_no_nan n N))
+    go false true f = cut_le (of_int binary32 (pos n)) n N (le_refl_float (of_int binary32 (pos n)) (int_no_nan n N))
     go false false f = f tt
 
 -- ---- `max` is at least its second operand, unless that is a NaN

@@ -19,17 +19,17 @@ module _ {A : Type 0} (f : ℕ → A) (old : List A) where
   filled-length (suc n) = length-set (filled n f old) n (f n) ∙ filled-length n
 
   -- an entry that is not yet stored
-  pub filled-after : (n k : ℕ) (d : A) → n ≤ k → get_or (filled n f old) k d ≡ get_or old k d
+  pub filled_after : (n k : ℕ) (d : A) → n ≤ k → get_or (filled n f old) k d ≡ get_or old k d
   unfolding filled turns
-  filled-after zero k d h = refl
-  filled-after (suc n) k d h = get_or-set_other (filled n f old) n k (f n) d (λ e. absurd (omega arith)) ∙ filled-after n k d (omega arith)
+  filled_after zero k d h = refl
+  filled_after (suc n) k d h = get_or-set_other (filled n f old) n k (f n) d (λ e. absurd (omega arith)) ∙ filled_after n k d (omega arith)
 
   -- an entry that is
-  pub filled-before : (n k : ℕ) (d : A) → k < n → n ≤ length old → get_or (filled n f old) k d ≡ f k
+  pub filled_before : (n k : ℕ) (d : A) → k < n → n ≤ length old → get_or (filled n f old) k d ≡ f k
   unfolding filled turns
-  filled-before zero k d h room = absurd (omega arith)
-  filled-before (suc n) k d h room =
-      ⊎_elim (λ e. last (omega arith)) (λ l. earlier (λ e. absurd (omega arith)) (filled-before n k d (omega arith) (omega arith))) (eq-or-lt_of_le h)
+  filled_before zero k d h room = absurd (omega arith)
+  filled_before (suc n) k d h room =
+      ⊎_elim (λ e. last (omega arith)) (λ l. earlier (λ e. absurd (omega arith)) (filled_before n k d (omega arith) (omega arith))) (eq-or-lt_of_le h)
     where
       last : k ≡ n → get_or (filled (suc n) f old) k d ≡ f k
       last e = rw e (get_or-set_same (filled n f old) n (f n) d (rw (filled-length n) room))
@@ -43,6 +43,6 @@ module _ {A : Type 0} (f : ℕ → A) (old : List A) where
   filled_more n = refl
 
   -- the whole list
-  pub filled-all : A → (n : ℕ) → length old ≡ n → filled n f old ≡ tabulate n f
-  filled-all d n e =
-      is_table n f (filled n f old) d (filled-length n ∙ e) (λ k h. filled-before n k d h (omega arith))
+  pub filled_all : A → (n : ℕ) → length old ≡ n → filled n f old ≡ tabulate n f
+  filled_all d n e =
+      is_table n f (filled n f old) d (filled-length n ∙ e) (λ k h. filled_before n k d h (omega arith))

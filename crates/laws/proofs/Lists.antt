@@ -32,14 +32,14 @@ unfolding tabulate
 length-tabulate zero f = refl
 length-tabulate (suc n) f = ap suc (length-tabulate n (λ k. f (suc k)))
 
-pub get_d_tabulate : {A : Type 0} (n : ℕ) (f : ℕ → A) (k : ℕ) (d : A) → k < n → get_or (tabulate n f) k d ≡ f k
+pub get_or-tabulate : {A : Type 0} (n : ℕ) (f : ℕ → A) (k : ℕ) (d : A) → k < n → get_or (tabulate n f) k d ≡ f k
 unfolding tabulate
-get_d_tabulate zero f k d h = absurd (omega arith)
-get_d_tabulate (suc n) f zero d h = refl
-get_d_tabulate (suc n) f (suc k) d h = get_d_tabulate n (λ j. f (suc j)) k d (omega arith)
+get_or-tabulate zero f k d h = absurd (omega arith)
+get_or-tabulate (suc n) f zero d h = refl
+get_or-tabulate (suc n) f (suc k) d h = get_or-tabulate n (λ j. f (suc j)) k d (omega arith)
 
-pub get_d_beyond : {A : Type 0} (n : ℕ) (f : ℕ → A) (k : ℕ) (d : A) → n ≤ k → get_or (tabulate n f) k d ≡ d
-get_d_beyond n f k d h =
+pub get_or_beyond : {A : Type 0} (n : ℕ) (f : ℕ → A) (k : ℕ) (d : A) → n ≤ k → get_or (tabulate n f) k d ≡ d
+get_or_beyond n f k d h =
     let l : length (tabulate n f) ≤ k = rw (length-tabulate n f) h in
     get_or-eq_default (tabulate n f) d l
 
@@ -47,7 +47,7 @@ get_d_beyond n f k d h =
 pub is_table : {A : Type 0} (n : ℕ) (f : ℕ → A) (list : List A) (d : A) → length list ≡ n → ((k : ℕ) → k < n → get_or list k d ≡ f k) → list ≡ tabulate n f
 is_table n f list d long at =
     ext_get_or d list (tabulate n f) (long ∙ sym (length-tabulate n f))
-    (λ k h. let below : k < n = omega (arith, h) in at k below ∙ sym (get_d_tabulate n f k d below))
+    (λ k h. let below : k < n = omega (arith, h) in at k below ∙ sym (get_or-tabulate n f k d below))
 
 -- tables of the same entries are the same
 pub table_same : {A : Type 0} (n : ℕ) (f g : ℕ → A) → ((k : ℕ) → k < n → f k ≡ g k) → tabulate n f ≡ tabulate n g
@@ -78,8 +78,8 @@ pub tabulate_both : {A B : Type 0} (R : A → B → Type 0) (n : ℕ) (f : ℕ �
 tabulate_both R n f g a b k inside default = go (ltb k n) (ltb→lt k n) (nltb→le k n)
   where
     go : (t : Bool) → (T t → k < n) → (T (not t) → n ≤ k) → R (get_or (tabulate n f) k a) (get_or (tabulate n g) k b)
-    go true h l = rw (get_d_tabulate n f k a (h tt), get_d_tabulate n g k b (h tt)) (inside (h tt))
-    go false h l = rw (get_d_beyond n f k a (l tt), get_d_beyond n g k b (l tt)) default
+    go true h l = rw (get_or-tabulate n f k a (h tt), get_or-tabulate n g k b (h tt)) (inside (h tt))
+    go false h l = rw (get_or_beyond n f k a (l tt), get_or_beyond n g k b (l tt)) default
 
 -- ---- each
 

@@ -103,9 +103,9 @@ gap_lower l l' plane same small' small lower x y =
     rw same (gap_mono (cell l' (x / side) (y / side)) (cell l (x / side) (y / side)) (small' _ _) (small _ _) (lower _ _))
 
 -- what is rendered is rendered at a smaller gap
-pub rendered-still : (most own g g' : Float) → T (g' ≼ g) → T (rendered g most own) → T (rendered g' most own)
+pub rendered_still : (most own g g' : Float) → T (g' ≼ g) → T (rendered g most own) → T (rendered g' most own)
 unfolding rendered
-rendered-still most own g g' h t =
+rendered_still most own g g' h t =
     let a = margin most in
     let b = margin own in
     and_i (not (a ≺ g')) (not (b ≺ g'))

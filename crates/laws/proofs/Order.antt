@@ -153,20 +153,20 @@ other false a p true b q P Q h =
 other true a p false b q P Q h = tt
 other true a p true b q P Q h = nltb→le (a * q) (b * p) h
 
-pub not-lt_of_le : (x y : Float) → T (le x y) → T (lt y x) → ⊥
+pub not_lt_of_le : (x y : Float) → T (le x y) → T (lt y x) → ⊥
 unfolding le
-not-lt_of_le nan y h k = h
-not-lt_of_le (inf s) nan h k = h
-not-lt_of_le (inf true) (inf true) h k = k
-not-lt_of_le (inf true) (inf false) h k = k
-not-lt_of_le (inf false) (inf true) h k = h
-not-lt_of_le (inf false) (inf false) h k = k
-not-lt_of_le (inf true) (fin t n d) h k = k
-not-lt_of_le (inf false) (fin t n d) h k = h
-not-lt_of_le (fin s m e) nan h k = h
-not-lt_of_le (fin s m e) (inf true) h k = h
-not-lt_of_le (fin s m e) (inf false) h k = k
-not-lt_of_le (fin s m e) (fin t n d) h k = never s (m * up e) (down e) t (n * up d) (down d) (opened s (m * up e) (down e) t (n * up d) (down d) (down_pos e) (down_pos d) h) k
+not_lt_of_le nan y h k = h
+not_lt_of_le (inf s) nan h k = h
+not_lt_of_le (inf true) (inf true) h k = k
+not_lt_of_le (inf true) (inf false) h k = k
+not_lt_of_le (inf false) (inf true) h k = h
+not_lt_of_le (inf false) (inf false) h k = k
+not_lt_of_le (inf true) (fin t n d) h k = k
+not_lt_of_le (inf false) (fin t n d) h k = h
+not_lt_of_le (fin s m e) nan h k = h
+not_lt_of_le (fin s m e) (inf true) h k = h
+not_lt_of_le (fin s m e) (inf false) h k = k
+not_lt_of_le (fin s m e) (fin t n d) h k = never s (m * up e) (down e) t (n * up d) (down d) (opened s (m * up e) (down e) t (n * up d) (down d) (down_pos e) (down_pos d) h) k
 
 pub le_of_not_lt : (x y : Float) → T (not (is_nan x)) → T (not (is_nan y)) → T (not (lt y x)) → T (le x y)
 unfolding le is_nan
@@ -210,7 +210,7 @@ by_test false f = f tt
 
 pub lt_of_lt_le : (x y z : Float) → T (lt x y) → T (le y z) → T (lt x z)
 lt_of_lt_le x y z h k = by_test (lt x z) (λ n.
-    not-lt_of_le y x (le_trans_float y z x k (le_of_not_lt z x (le_right y z k) (le_left x y (le_of_lt_float x y h)) n)) h)
+    not_lt_of_le y x (le_trans_float y z x k (le_of_not_lt z x (le_right y z k) (le_left x y (le_of_lt_float x y h)) n)) h)
 
 pub lt_trans_float : (x y z : Float) → T (lt x y) → T (lt y z) → T (lt x z)
 lt_trans_float x y z h k = lt_of_lt_le x y z h (le_of_lt_float y z k)

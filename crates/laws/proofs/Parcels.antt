@@ -19,18 +19,18 @@ length_record r =
     length-append (in_bytes 4 (length r.payload) ++ in_bytes 2 r.kind) r.payload ∙ rw before
 
 -- records before others
-pub run-append : (a b : List Record) → run_bytes (a ++ b) ≡ run_bytes a ++ run_bytes b
+pub run_append : (a b : List Record) → run_bytes (a ++ b) ≡ run_bytes a ++ run_bytes b
 unfolding run_bytes
-run-append [] b = refl
-run-append (r ∷ rest) b = rw (run-append rest b, append_assoc (record_bytes r) (run_bytes rest) (run_bytes b))
+run_append [] b = refl
+run_append (r ∷ rest) b = rw (run_append rest b, append_assoc (record_bytes r) (run_bytes rest) (run_bytes b))
 
 pub length_run : (r : Record) (rest : List Record) → length (run_bytes (r ∷ rest)) ≡ 6 + length r.payload + length (run_bytes rest)
 unfolding run_bytes
 length_run r rest = length-append (record_bytes r) (run_bytes rest) ∙ rw (length_record r)
 
 -- a head
-pub length-head : (size : ℕ × ℕ) (ratio : ℕ) → length (head_bytes size ratio) ≡ 6
-length-head size ratio = simp (length-append, length-in_bytes)
+pub length_head : (size : ℕ × ℕ) (ratio : ℕ) → length (head_bytes size ratio) ≡ 6
+length_head size ratio = simp (length-append, length-in_bytes)
 
 -- numbers of a table, and of a plane
 pub length_table : (n : ℕ) (f : ℕ → ℤ) → length (written (tabulate n f)) ≡ 2 * n

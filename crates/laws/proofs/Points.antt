@@ -55,9 +55,9 @@ pub fraction-float : (n : ℕ) → n ≤ 4096 → eq (fraction (float n)) 0·0 �
 fraction-float n h = rw (cut-float n h, none_left n h) zero_eq
 
 -- at a pixel the model is its texel
-pub model-whole : (l : Layer) (plane x y : ℕ) → x ≤ 4096 → y ≤ 4096 → model_at l plane (float x) (float y) ≡ texel l plane x y
+pub model_whole : (l : Layer) (plane x y : ℕ) → x ≤ 4096 → y ≤ 4096 → model_at l plane (float x) (float y) ≡ texel l plane x y
 unfolding model_at
-model-whole l plane x y a b = rw (fraction-float x a, fraction-float y b, cut-float x a, cut-float y b)
+model_whole l plane x y a b = rw (fraction-float x a, fraction-float y b, cut-float x a, cut-float y b)
 
 -- ---- a stored gain against 0.2
 
@@ -79,9 +79,9 @@ unfolding round
 abs_round f s a c = abs_units f s _ _
 
 -- a whole number by 2 ^ k
-pub div-at : (k : ℕ) (x : Float) (s : Bool) (a : ℕ) → HasValue x s a 1 → x ⊘ fin false 1 (pos k) ≡ round binary32 s a (2 ^ k)
+pub div_at : (k : ℕ) (x : Float) (s : Bool) (a : ℕ) → HasValue x s a 1 → x ⊘ fin false 1 (pos k) ≡ round binary32 s a (2 ^ k)
 unfolding div
-div-at k x s a v = by_value (λ x. x ⊘ fin false 1 (pos k) ≡ round binary32 s a (2 ^ k)) x s a 1 v (λ m e q.
+div_at k x s a v = by_value (λ x. x ⊘ fin false 1 (pos k) ≡ round binary32 s a (2 ^ k)) x s a 1 v (λ m e q.
     ap (λ (z : Bool). round binary32 z (m * up e * 1) (1 * 2 ^ k * down e)) (sign s)
     ∙ round_same binary32 s (m * up e * 1) (1 * 2 ^ k * down e) a (2 ^ k) (above (2 ^ k) (down e) (mul-pos (pow_pos k) (down_pos e))) (pow_pos k)
     (cross (m * up e * 1) a (2 ^ k) (down e) q))
@@ -107,7 +107,7 @@ fifth_is = refl
 -- a gain whose size, in 4096ths, is at least that of 0.2
 pub fifth : (g : ℤ) → nat_abs g ≤ 2 ^ 15 → 13421773 * 4096 ≤ nat_abs g * 2 ^ 26 → T (0·2 ≼ abs (signed g ⊘ 4096·0))
 fifth g small large =
-    rw (scale_is, div-at 12 (signed g) (minus? g) (nat_abs g) (int_value binary32 g (le_trans small (lit≤ tt))), abs_round binary32 (minus? g) (nat_abs g) 4096, fifth_is)
+    rw (scale_is, div_at 12 (signed g) (minus? g) (nat_abs g) (int_value binary32 g (le_trans small (lit≤ tt))), abs_round binary32 (minus? g) (nat_abs g) 4096, fifth_is)
     (round_mono binary32 13421773 (2 ^ 26) (nat_abs g) 4096 (lit< tt) (lit< tt) large)
 
 -- a stored number is "held to ±32767"

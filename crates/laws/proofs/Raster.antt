@@ -61,10 +61,10 @@ module _ (rule : Rule) (pitch : ℕ) where
   stroke_other : (y x j : ℕ) → (j ≡ y * pitch + x → ⊥) → (l : List ℕ) → get_or (stroke rule pitch x y l) j 0 ≡ get_or l j 0
   stroke_other y x j away l = stroke_either (λ a. get_or a j 0 ≡ get_or l j 0) y x l (λ v. get_or-set_other l (y * pitch + x) j v 0 away) refl
 
-  stroke-at : (y x : ℕ) (l : List ℕ) → y * pitch + x < length l
+  stroke_at : (y x : ℕ) (l : List ℕ) → y * pitch + x < length l
       → get_or (stroke rule pitch x y l) (y * pitch + x) 0 ≡ ruled rule x y (get_or l (y * pitch + x) 0)
   unfolding stroke
-  stroke-at y x l inside = go (rule.writes x y) _
+  stroke_at y x l inside = go (rule.writes x y) _
     where
       go : (b : Bool) (v : ℕ) → get_or (cond b (set l (y * pitch + x) v) l) (y * pitch + x) 0 ≡ cond b v (get_or l (y * pitch + x) 0)
       go true v = get_or-set_same l (y * pitch + x) v 0 inside
@@ -82,7 +82,7 @@ module _ (rule : Rule) (pitch : ℕ) where
       → get_or (scan_row (stroke rule pitch) y width l) (y * pitch + x) 0 ≡ ruled rule x y (get_or l (y * pitch + x) 0)
   unfolding scan_row
   row_at width y x across =
-      turns_at _ (stroke-length y) (y * pitch + x) width x (ruled rule x y) across (stroke-at y x)
+      turns_at _ (stroke-length y) (y * pitch + x) width x (ruled rule x y) across (stroke_at y x)
       (λ k away. stroke_other y k (y * pitch + x) (λ e. away (omega arith)))
 
 -- places in rows that are wide enough are one only where their rows are
@@ -103,10 +103,10 @@ module _ (rule : Rule) (size : ℕ × ℕ) (p : Plane) where
       (λ y down. row_other rule p.pitch size.0 y j (λ x across. away x y across down)) p.bytes
 
   -- a pixel's byte is what the rule makes of it
-  pub painted-at : size.0 ≤ p.pitch → (x y : ℕ) → x < size.0 → y < size.1 → y * p.pitch + x < length p.bytes
+  pub painted_at : size.0 ≤ p.pitch → (x y : ℕ) → x < size.0 → y < size.1 → y * p.pitch + x < length p.bytes
       → get_or (painted rule size p) (y * p.pitch + x) 0 ≡ ruled rule x y (get_or p.bytes (y * p.pitch + x) 0)
   unfolding painted scan
-  painted-at narrow x y across down =
+  painted_at narrow x y across down =
       turns_at _ (row_length rule p.pitch size.0) (y * p.pitch + x) size.1 y (ruled rule x y) down (row_at rule p.pitch size.0 y x across)
       (λ k away. row_other rule p.pitch size.0 k (y * p.pitch + x)
       (λ x' across' e. away (sym (one_row p.pitch x x' y k (omega arith) (omega arith) e))))

@@ -87,9 +87,9 @@ pub le_int : (f : Format) (a b : ℤ) → nat_abs a ≤ 2 ^ prec f → nat_abs b
 le_int f a b A B t = of_below a b (values_by_le (of_int f a) (of_int f b) (minus? a) (nat_abs a) 1 (minus? b) (nat_abs b) 1 (int_value f a A) (int_value f b B) (zero-lt-suc 0) (zero-lt-suc 0) t)
 
 -- ---- an index: what is at most n is cut to at most n
-pub cut-le : (x : Float) (n : ℕ) → n ≤ 2 ^ 24 → T (le x (of_int binary32 (pos n))) → to_unsigned 64 x ≤ n
+pub cut_le : (x : Float) (n : ℕ) → n ≤ 2 ^ 24 → T (le x (of_int binary32 (pos n))) → to_unsigned 64 x ≤ n
 unfolding le to_unsigned
-cut-le x n N h = go x (of_int binary32 (pos n)) (int_value binary32 (pos n) N) h
+cut_le x n N h = go x (of_int binary32 (pos n)) (int_value binary32 (pos n) N) h
   where
     capped : (q w : ℕ) → q ≤ n → min q w ≤ n
     capped q w h = omega arith
@@ -300,8 +300,8 @@ gap_z_zero (pos a) t = go (ltb (a * 8) 8) (ltb→lt (a * 8) 8) t
         few : a * 8 - 8 ≤ 0 → a ≤ 1
         few h = omega arith
 
-pub gap-zero : (d : ℤ) → nat_abs d ≤ 2 ^ 15 → T (le (gap d) 0·0) ↔ T (le_z d (pos 1))
-gap-zero d D = (
+pub gap_zero : (d : ℤ) → nat_abs d ≤ 2 ^ 15 → T (le (gap d) 0·0) ↔ T (le_z d (pos 1))
+gap_zero d D = (
   (λ t. gap_z_zero d (le_int binary32 (gap_z d) (pos 0) (gap_bound d D) (lit≤ tt) (subst (λ (z : Float). T (le z (of_int binary32 (pos 0)))) (gap_is d D) (subst (λ (z : Float). T (le (gap d) z)) nought t)))),
   (λ t. subst (λ (z : Float). T (le (gap d) z)) (sym nought) (subst (λ (z : Float). T (le (gap d) z)) one (gap_mono d (pos 1) D (lit≤ tt) t))),
 )

@@ -8,11 +8,11 @@ use lib.IntN.{ℤ, pos}
 use lib.Signed.{le_z, mag, nat_abs-le}
 use lib.Ieee.{le}
 use Rattle.rules.specs.Literals.{0·0}
-use Rattle.laws.proofs.Whole.{gap, gap-zero, same_test}
+use Rattle.laws.proofs.Whole.{gap, gap_zero, same_test}
 use Rattle.layer_cell.specs.Cells.{CellEnd}
 
-same-cell : (j k side : ℕ) → k ≤ j → j < k / side * side + side → j / side ≡ k / side
-same-cell j k side low high =
+same_cell : (j k side : ℕ) → k ≤ j → j < k / side * side + side → j / side ≡ k / side
+same_cell j k side low high =
     let f = div-mul-le_self k side in
     let e : (k / side + 1) * side ≡ k / side * side + side = add-mul (k / side) 1 side ∙ ap (λ (n : ℕ). k / side * side + n) (one-mul side) in
     div-eq_of_lt-le side (omega arith) (omega arith)
@@ -20,7 +20,7 @@ same-cell j k side low high =
 -- the end of the cell, or a nearer one
 pub cell_end : (k side size r : ℕ) → 1 ≤ side → k < size → r ≤ k / side * side + side → r ≤ size → k < r → CellEnd k side size r
 cell_end k side size r some inside short within ahead =
-    record { ahead = ahead; within = within; same = λ j low high. same-cell j k side low (omega arith) }
+    record { ahead = ahead; within = within; same = λ j low high. same_cell j k side low (omega arith) }
 
 pub ahead : (k side : ℕ) → 1 ≤ side → k < k / side * side + side
 ahead k side some = lt-div-mul-add some
@@ -36,5 +36,5 @@ cell_in false n r k small whole below = lt_of_le_of_lt (div-le_self k (8 / r)) b
 -- "at most 0 exactly when the stored number is at most 1"
 pub gap_test : (d : ℤ) → mag d < 2 ^ 15 → le_z d (pos 1) ≡ le (gap d) 0·0
 gap_test d small =
-    let h = gap-zero d (nat_abs-le d small) in
+    let h = gap_zero d (nat_abs-le d small) in
     same_test (le_z d (pos 1)) (le (gap d) 0·0) h.1 h.0

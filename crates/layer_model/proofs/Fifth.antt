@@ -14,9 +14,9 @@ use mir.Syntax.{w32}
 use mir.Val.{SFits}
 use Rattle.rules.specs.Literals.{0·2, 4096·0}
 use Rattle.rules.specs.Float.{◌⊗◌, ◌⊘◌, ◌≼◌, abs, float, signed}
-use Rattle.laws.proofs.Points.{div-at}
+use Rattle.laws.proofs.Points.{div_at}
 use Rattle.laws.proofs.Whole.{minus?, int_value, le_by_values, values_by_le, same_test}
-use Rattle.plane.proofs.Laws.{leb-same}
+use Rattle.plane.proofs.Laws.{leb_same}
 use Rattle.layer_numbers.specs.Stored.{gain_by}
 use Rattle.layer_model.specs.Least.{least_of}
 
@@ -33,11 +33,11 @@ exact s a k j e small h =
     round_exact binary32 s a (2 ^ k) a j (pow_pos k) (lt_of_le_of_lt h (lit< tt)) (lt_of_le_of_lt (mul-le-mul_right (2 ^ j) h) small)
     (ap (λ (n : ℕ). a * n) e ∙ sym (mul_assoc a (2 ^ j) (2 ^ k)))
 
-abs-value : (x : Float) (s : Bool) (a c : ℕ) → HasValue x s a c → HasValue (abs x) false a c
+abs_value : (x : Float) (s : Bool) (a c : ℕ) → HasValue x s a c → HasValue (abs x) false a c
 unfolding abs
-abs-value nan s a c v = v
-abs-value (inf t) s a c v = v
-abs-value (fin t m e) s a c v = (refl, v.1)
+abs_value nan s a c v = v
+abs_value (inf t) s a c v = v
+abs_value (fin t m e) s a c v = (refl, v.1)
 
 fifth_value : HasValue 0·2 false 13421773 (2 ^ 26)
 unfolding of_bits
@@ -52,8 +52,8 @@ module _ (z : ℤ) (small : nat_abs z ≤ 524288) where
   test_at n k j least scale whole low up down =
       let x = signed z ⊘ fin false 1 (pos k) in
       let v : HasValue x (minus? z) (nat_abs z) (2 ^ k) =
-          rw (div-at k (signed z) (minus? z) (nat_abs z) (int_value binary32 z (le_trans small (lit≤ tt)))) (exact (minus? z) (nat_abs z) k j whole low small) in
-      let w = abs-value x (minus? z) (nat_abs z) (2 ^ k) v in
+          rw (div_at k (signed z) (minus? z) (nat_abs z) (int_value binary32 z (le_trans small (lit≤ tt)))) (exact (minus? z) (nat_abs z) k j whole low small) in
+      let w = abs_value x (minus? z) (nat_abs z) (2 ^ k) v in
       rw scale
       (same_test (le 0·2 (abs x)) (leb least (nat_abs z))
       (λ t. le→leb least (nat_abs z) (up (nat_abs z) (values_by_le 0·2 (abs x) false 13421773 (2 ^ 26) false (nat_abs z) (2 ^ k) fifth_value w (lit< tt) (pow_pos k) t)))
@@ -90,10 +90,10 @@ at_least n (negsuc a) t = absurd (false≢true t)
 pub at_most : (n : ℕ) (z : ℤ) → 1 ≤ n → le_z (pos n) z ≡ false → le_z z (neg_ℤ (pos n)) ≡ leb n (nat_abs z)
 at_most zero z h t = absurd (omega arith)
 at_most (suc n) (pos a) h t = sym t
-at_most (suc n) (negsuc a) h t = leb-same n a (suc n) (suc a) (λ l. omega arith) (λ l. omega arith)
+at_most (suc n) (negsuc a) h t = leb_same n a (suc n) (suc a) (λ l. omega arith) (λ l. omega arith)
 
-pub some-least : (n : ℕ) → 1 ≤ least_of n
-some-least n = go (eqb n 1) (eqb n 2)
+pub some_least : (n : ℕ) → 1 ≤ least_of n
+some_least n = go (eqb n 1) (eqb n 2)
   where
     go : (a b : Bool) → 1 ≤ cond a 820 (cond b 3277 13108)
     go true b = lit≤ tt

@@ -20,15 +20,15 @@ pub luma_is : (l : Layer) (plane x y : ℕ) → plane ≡ 0 → luma_texel (luma
 unfolding texel
 luma_is l plane x y zero = sym (simp (eq-eqb _ _ zero))
 
-same-model : (gain offset : Float) (m : Model) → gain ≡ m.gain → offset ≡ m.offset → record { gain = gain; offset = offset } ≡ m
-same-model gain offset m g o = rw (g, o)
+same_model : (gain offset : Float) (m : Model) → gain ≡ m.gain → offset ≡ m.offset → record { gain = gain; offset = offset } ≡ m
+same_model gain offset m g o = rw (g, o)
 
 pub chroma_is : (p : Plan) (luma first second : List ℤ) (x y n : ℕ) (total : ℤ) → Summed p luma x y total → p.span ≡ n → (p.shape.plane ≡ 0 → ⊥)
     → let l = holding p.shape luma first second in
     chroma_texel n (signed total) (stored_chroma l p.shape.plane x y) ≡ texel l p.shape.plane x y
 unfolding texel chroma_texel
 chroma_is p luma first second x y n total sum span some =
-    same-model _ _ _ (rw (← span) (sym (sum.is first second))) (sym (simp (ne_eqb _ _ some)))
+    same_model _ _ _ (rw (← span) (sym (sum.is first second))) (sym (simp (ne_eqb _ _ some)))
 
 -- luma has a span of 1, and a plane with one of 2 is not luma
 pub luma_fixed : (p : Plan) → Planned p → p.shape.plane ≡ 0 → Fixed p true 1

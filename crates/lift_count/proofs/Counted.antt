@@ -58,23 +58,23 @@ module _ {l : Layer} {plane y : ℕ} where
   pub row_on : {from to count n r : ℕ} → from ≤ to → RowCounted l plane y from count n → CountedOn l plane y from to n r → RowCounted l plane y to count r
   row_on {count = count} ahead row on = record { tally_is = on.on count row.tally_is; few = omega (arith, row.few, on.few) }
 
-  far-one : {x count n : ℕ} → layered l plane x y ≡ false → RowCounted l plane y x count n → RowCounted l plane y (x + 1) count n
+  far_one : {x count n : ℕ} → layered l plane x y ≡ false → RowCounted l plane y x count n → RowCounted l plane y (x + 1) count n
   unfolding turns scan_row tally
-  far-one far row = record { tally_is = simp (far, row.tally_is, add-one); few = omega (arith, row.few) }
+  far_one far row = record { tally_is = simp (far, row.tally_is, add-one); few = omega (arith, row.few) }
 
-  far-run : {x count n : ℕ} (more : ℕ) → ((k : ℕ) → x ≤ k → k < x + more → layered l plane k y ≡ false) → RowCounted l plane y x count n
+  far_run : {x count n : ℕ} (more : ℕ) → ((k : ℕ) → x ≤ k → k < x + more → layered l plane k y ≡ false) → RowCounted l plane y x count n
       → RowCounted l plane y (x + more) count n
-  far-run {x = x} zero far row = let e : x + 0 ≡ x = omega arith in rw e row
-  far-run {x = x} (suc more) far row =
+  far_run {x = x} zero far row = let e : x + 0 ≡ x = omega arith in rw e row
+  far_run {x = x} (suc more) far row =
       let e : x + suc more ≡ x + more + 1 = omega arith in
-      rw e (far-one (far (x + more) (omega arith) (omega arith)) (far-run more (λ k low high. far k low (omega arith)) row))
+      rw e (far_one (far (x + more) (omega arith) (omega arith)) (far_run more (λ k low high. far k low (omega arith)) row))
 
   -- pixels that are not written are passed over
   pub row_far : {from to count n : ℕ} → from ≤ to → ((k : ℕ) → from ≤ k → k < to → layered l plane k y ≡ false) → RowCounted l plane y from count n
       → RowCounted l plane y to count n
   row_far {from} {to} ahead far row =
       let e : from + (to - from) ≡ to = omega arith in
-      rw e at (far-run (to - from) (λ k low high. far k low (omega arith)) row)
+      rw e at (far_run (to - from) (λ k low high. far k low (omega arith)) row)
 
 -- ---- a pixel, by its cell and its model
 

@@ -49,15 +49,15 @@ module _ (w : Work) (s : Shape) (numbers : Numbers) (bytes frames : Bytes) (x y 
   unfolding change
   change_keep t = sym (simp (writes_is w s numbers bytes frames x y ∙ near_writes (lay s numbers bytes) s.plane x y near, t))
 
-  pub change-put : (b : ℕ) → is_plain (texel (lay s numbers bytes) s.plane x y) ≡ false → b ≡ (rule_of w s numbers bytes frames).byte x y old
+  pub change_put : (b : ℕ) → is_plain (texel (lay s numbers bytes) s.plane x y) ≡ false → b ≡ (rule_of w s numbers bytes frames).byte x y old
       → Put b ≡ change (rule_of w s numbers bytes frames) x y old
   unfolding change
-  change-put b t e = rw e (sym (simp (writes_is w s numbers bytes frames x y ∙ near_writes (lay s numbers bytes) s.plane x y near, t)))
+  change_put b t e = rw e (sym (simp (writes_is w s numbers bytes frames x y ∙ near_writes (lay s numbers bytes) s.plane x y near, t)))
 
   -- by the work that it is
   pub put_by : (v : Work) → w ≡ v → (b : ℕ) → is_plain (texel (lay s numbers bytes) s.plane x y) ≡ false → b ≡ (rule_of v s numbers bytes frames).byte x y old
       → Put b ≡ change (rule_of w s numbers bytes frames) x y old
-  put_by v e b t is = change-put b t (rw e is)
+  put_by v e b t is = change_put b t (rw e is)
 
 -- ---- the scene at a pixel
 

@@ -90,9 +90,9 @@ module _ (p : Plan) (h : Planned p) (second : List ℤ) (y : ℕ) where
       go (no above) = rw (gap_is x k luma first d (end.same k (omega arith) high) is) t
 
   -- far pixels are not written
-  pub far-all : (numbers : Numbers) (bytes frames : Bytes) (w : Work) (from to : ℕ) → second ≡ part p.shape numbers bytes 2 → Alike p second y from false to
+  pub far_all : (numbers : Numbers) (bytes frames : Bytes) (w : Work) (from to : ℕ) → second ≡ part p.shape numbers bytes 2 → Alike p second y from false to
       → (k : ℕ) → from ≤ k → k < to → (rule_of w p.shape numbers bytes frames).writes k y ≡ false
-  far-all numbers bytes frames w from to is far k low high =
+  far_all numbers bytes frames w from to is far k low high =
       writes_is w p.shape numbers bytes frames k y
       ∙ far_writes _ _ k y (rw is at (far (part p.shape numbers bytes 0) (part p.shape numbers bytes 1) k low high))
 

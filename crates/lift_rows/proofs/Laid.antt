@@ -17,7 +17,7 @@ use Rattle.layer_lent.specs.Lent.{Numbers, Bytes, lay, first_by, second_by}
 use Rattle.lift_pixel.specs.declared.Work.{Work}
 use Rattle.lift_pixel.specs.declared.Work.TheVariants.{Peel, Unpeel}
 use Rattle.lift_pixel.specs.Works.{rule_of, is_unpeel}
-use Rattle.lift_pixel.proofs.Peels.{change_keep, change-put}
+use Rattle.lift_pixel.proofs.Peels.{change_keep, change_put}
 use Rattle.lift_straight.specs.declared.Stroke.{Stroke}
 use Rattle.lift_straight.specs.Stroke.{IsLaid, change_of}
 use Rattle.lift_rows.specs.Rows.{RowOn}
@@ -32,7 +32,7 @@ module _ (s : Shape) (numbers : Numbers) (bytes frames : Bytes) where
     where
       go : (b : Bool) → is_plain (texel (lay s numbers bytes) s.plane x y) ≡ b → change_of d ≡ change (rule_of Unpeel s numbers bytes frames) x y old
       go true t = simp (is.put_is, t) (change_keep Unpeel s numbers bytes frames x y old near t)
-      go false t = simp (is.put_is, t) (change-put Unpeel s numbers bytes frames x y old near d.byte t is.byte_is)
+      go false t = simp (is.put_is, t) (change_put Unpeel s numbers bytes frames x y old near d.byte t is.byte_is)
 
   -- one pixel more of a run that is laid and counted from 0
   pub laid_more : {pitch y from x count : ℕ} {before now after : List ℕ} {n r : ℕ} {m : Model} {d : Stroke} → m ≡ texel (lay s numbers bytes) s.plane x y

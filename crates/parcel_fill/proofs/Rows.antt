@@ -15,7 +15,7 @@ use lib.Seq.{length-take-le, get_or-take, get_or-drop}
 use Rattle.rules.specs.Forms.{tabulate, cells}
 use Rattle.rules.specs.Host.{entry, numbers}
 use Rattle.rules.specs.Parcel.{cell_or_zero}
-use Rattle.laws.proofs.Lists.{get_d_tabulate, length-tabulate, table_same, tabulate-add}
+use Rattle.laws.proofs.Lists.{get_or-tabulate, length-tabulate, table_same, tabulate-add}
 use Rattle.table.specs.Put.{Put}
 use Rattle.table.proofs.Put.{put_as, put_join}
 use Rattle.parcel_fill.specs.declared.Marks.{Marks}
@@ -41,9 +41,9 @@ module _ (payload : List ℕ) (s n : ℕ) (inside : 2 * (s + n) ≤ length paylo
       let high : 2 * s + (k * 2 + 1) ≡ (s + k) * 2 + 1 = omega arith in
       rw (byte_at (k * 2) (omega arith), byte_at (k * 2 + 1) (omega arith), low, high)
 
-  pub numbers-part : numbers (take (2 * n) (drop (2 * s) payload)) ≡ tabulate n (λ k. entry payload (s + k))
+  pub numbers_part : numbers (take (2 * n) (drop (2 * s) payload)) ≡ tabulate n (λ k. entry payload (s + k))
   unfolding numbers part
-  numbers-part =
+  numbers_part =
       let half : 2 * n / 2 ≡ n = omega arith in
       rw (part_long, half) (table_same n (entry part) (λ k. entry payload (s + k)) entry_at)
 
@@ -74,7 +74,7 @@ module _ (payload : List ℕ) (m : Marks) (y : ℕ) (narrow : cells m.width ≤ 
     cell_at x left =
         let many : length payload / 2 ≡ cells m.width * cells m.height = omega arith in
         sym (mark_is x (omega arith) ∙ rw (lt-ltb x (cells m.width) left, lt-ltb y (cells m.height) above)
-        (get_d_tabulate (length payload / 2) (entry payload) (y * cells m.width + x) (pos 0) (omega (arith, row_fits))))
+        (get_or-tabulate (length payload / 2) (entry payload) (y * cells m.width + x) (pos 0) (omega (arith, row_fits))))
 
     none_at : (x : ℕ) → cells m.width + x < m.across → pos 0 ≡ mark_at payload m (y * m.across + (cells m.width + x))
     none_at x left = sym (mark_is (cells m.width + x) left ∙ rw (le-ltb (cells m.width + x) (cells m.width) (omega arith)))
@@ -94,7 +94,7 @@ module _ (payload : List ℕ) (m : Marks) (y : ℕ) (narrow : cells m.width ≤ 
     row_put wide e {at = at} a b =
         let size : 2 * (y * wide) + 2 * wide - 2 * (y * wide) ≡ 2 * wide = omega arith in
         let inside : 2 * (y * wide + wide) ≤ length payload = rw e (omega (arith, row_fits)) in
-        let front = put_as (rw size at a) (numbers-part payload (y * wide) wide inside) in
+        let front = put_as (rw size at a) (numbers_part payload (y * wide) wide inside) in
         let next = ap (λ (n : ℕ). at + n) (sym (length-tabulate wide (λ k. entry payload (y * wide + k)))) in
         put_as (put_join front next b) (rw e row_is)
 

@@ -11,7 +11,7 @@ use Rattle.rules.specs.Forms.{tabulate}
 use Rattle.rules.specs.Parcel.{in_bytes, bits, written, record_bytes, head_bytes}
 use Rattle.laws.proofs.Bytes.{length-in_bytes, written-append, written_last, in_four}
 use Rattle.laws.proofs.Lists.{table_same, tabulate-add, tabulate_last}
-use Rattle.laws.proofs.Parcels.{length-head, length_table, length_rows}
+use Rattle.laws.proofs.Parcels.{length_head, length_table, length_rows}
 use Rattle.table.specs.Put.{Put}
 use Rattle.table.proofs.Put.{put_none, put_one, put_join, put_as}
 use Rattle.parcel_put.specs.declared.Run.{Run}
@@ -33,9 +33,9 @@ then_two size n first long e second = put_join first (rw long e) second
 
 -- ---- records
 
-pub start-put : {before first second after : List ℕ} {at : ℕ} (size kind : ℕ) → Put before at (in_bytes 2 size) first → Put first (at + 2) (in_bytes 2 (size / 65536)) second
+pub start_put : {before first second after : List ℕ} {at : ℕ} (size kind : ℕ) → Put before at (in_bytes 2 size) first → Put first (at + 2) (in_bytes 2 (size / 65536)) second
     → Put second (at + 4) (in_bytes 2 kind) after → Put before at (in_bytes 4 size ++ in_bytes 2 kind) after
-start-put size kind a b c =
+start_put size kind a b c =
     then_two 4 kind (put_as (then_two 2 (size / 65536) a (length-in_bytes 2 size) refl b) (sym (in_four size))) (length-in_bytes 4 size) refl c
 
 record_put : {before now after payload : List ℕ} {at : ℕ} (size kind : ℕ) → Put before at (in_bytes 4 size ++ in_bytes 2 kind) now → size ≡ length payload
@@ -46,13 +46,13 @@ record_put {payload = payload} {at = at} size kind start e rest =
     long : at + 6 ≡ at + length (in_bytes 4 (length payload) ++ in_bytes 2 kind)
     long = rw (length-append (in_bytes 4 (length payload)) (in_bytes 2 kind), length-in_bytes 4 (length payload), length-in_bytes 2 kind)
 
-pub head-put : {before start first second after : List ℕ} (size : ℕ × ℕ) (ratio : ℕ) → Put before 0 (in_bytes 4 6 ++ in_bytes 2 1) start → Put start 6 (in_bytes 2 size.0) first
+pub head_put : {before start first second after : List ℕ} (size : ℕ × ℕ) (ratio : ℕ) → Put before 0 (in_bytes 4 6 ++ in_bytes 2 1) start → Put start 6 (in_bytes 2 size.0) first
     → Put first 8 (in_bytes 2 size.1) second → Put second 10 (in_bytes 2 ratio) after
     → Put before 0 (record_bytes (record { kind = 1; payload = head_bytes size ratio })) after
-head-put size ratio start a b c =
+head_put size ratio start a b c =
     let both = then_two 2 size.1 a (length-in_bytes 2 size.0) refl b in
     let long : length (in_bytes 2 size.0 ++ in_bytes 2 size.1) ≡ 4 = simp (length-append, length-in_bytes) in
-    record_put 6 1 start (sym (length-head size ratio)) (then_two 4 ratio both long refl c)
+    record_put 6 1 start (sym (length_head size ratio)) (then_two 4 ratio both long refl c)
 
 -- ---- rows of numbers
 
@@ -85,9 +85,9 @@ module _ (numbers : List ℤ) (from pitch width y : ℕ) where
 
 -- ---- a record of a run
 
-pub run-put : {before now after : List ℕ} {at : ℕ} (kind : ℕ) (numbers : List ℤ) (r : Run) → Put before at (in_bytes 4 (2 * (r.width * r.rows)) ++ in_bytes 2 kind) now
+pub run_put : {before now after : List ℕ} {at : ℕ} (kind : ℕ) (numbers : List ℤ) (r : Run) → Put before at (in_bytes 4 (2 * (r.width * r.rows)) ++ in_bytes 2 kind) now
     → Put now (at + 6) (written (run_of numbers r)) after → Put before at (record_bytes (record { kind = kind; payload = written (run_of numbers r) })) after
-run-put kind numbers r start rest =
+run_put kind numbers r start rest =
     record_put (2 * (r.width * r.rows)) kind start (sym (length_rows (r.width, r.rows) (entry_of numbers r.from r.pitch))) rest
 
 -- ---- where the rows of a run lie

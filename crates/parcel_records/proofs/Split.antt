@@ -46,8 +46,8 @@ abbrev pub WholeAt : List ℕ → (kind size : ℕ) → Type 0
 WholeAt rest kind size = (begins_whole rest ≡ true) × (kind ≡ little 2 rest 4) × (size ≡ length_at rest)
 
 module _ (parcel : List ℕ) (at : ℕ) where
-  pub whole-at : (kind start size : ℕ) → step_at parcel at ≡ Whole kind start size → WholeAt (drop at parcel) kind size × (start ≡ at + 6)
-  whole-at kind start size e = go (eqb (length (drop at parcel)) 0) (begins_whole (drop at parcel)) e
+  pub whole_at : (kind start size : ℕ) → step_at parcel at ≡ Whole kind start size → WholeAt (drop at parcel) kind size × (start ≡ at + 6)
+  whole_at kind start size e = go (eqb (length (drop at parcel)) 0) (begins_whole (drop at parcel)) e
     where
       go : (none whole : Bool) → cond none End (cond whole (Whole (little 2 (drop at parcel) 4) (at + 6) (length_at (drop at parcel))) Cut) ≡ Whole kind start size
           → ((whole ≡ true) × (kind ≡ little 2 (drop at parcel) 4) × (size ≡ length_at (drop at parcel))) × (start ≡ at + 6)

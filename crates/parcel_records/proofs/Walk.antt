@@ -14,7 +14,7 @@ use Rattle.parcel_records.specs.declared.Place.{Place}
 use Rattle.parcel_records.specs.declared.Tally.TheVariants.{Cut as CutShort, Records}
 use Rattle.parcel_records.specs.declared.Step.TheVariants.{Whole, Cut, End}
 use Rattle.parcel_records.specs.Steps.{step_at, count_of, noted_of, Placed, splits, Counting, Finding}
-use Rattle.parcel_records.proofs.Split.{later, opened, whole-at, end_at, cut_at}
+use Rattle.parcel_records.proofs.Split.{later, opened, whole_at, end_at, cut_at}
 
 -- ---- one step
 
@@ -24,14 +24,14 @@ module _ (parcel : List ℕ) (at kind start size : ℕ) (e : step_at parcel at �
 
   fits : at ≤ length parcel → start + size ≤ length parcel
   fits h =
-      let w = whole-at parcel at kind start size e in
+      let w = whole_at parcel at kind start size e in
       let t = both (leb 6 (length (drop at parcel))) (leb (length_at (drop at parcel)) (length (drop at parcel) - 6)) w.0.0 in
       let six = leb-true 6 (length (drop at parcel)) t.0 in
       let long = leb-true (length_at (drop at parcel)) (length (drop at parcel) - 6) t.1 in
       omega (arith, length-drop at parcel, w.1, w.0.2)
 
   past : at < start + size
-  past = let w = whole-at parcel at kind start size e in omega (arith, w.1)
+  past = let w = whole_at parcel at kind start size e in omega (arith, w.1)
 
   -- the next record begins further on, inside the parcel
   pub onward : at ≤ length parcel → (at < start + size) × (start + size ≤ length parcel)
@@ -39,20 +39,20 @@ module _ (parcel : List ℕ) (at kind start size : ℕ) (e : step_at parcel at �
 
   next_is : later (drop at parcel) ≡ drop (start + size) parcel
   next_is =
-      let w = whole-at parcel at kind start size e in
+      let w = whole_at parcel at kind start size e in
       let place : at + (6 + length_at (drop at parcel)) ≡ start + size = omega (arith, w.1, w.0.2) in
       drop-drop (6 + length_at (drop at parcel)) at parcel ∙ rw place
 
   first_is : first_record (drop at parcel) ≡ record_here
   unfolding record_here
   first_is =
-      let w = whole-at parcel at kind start size e in
+      let w = whole_at parcel at kind start size e in
       rw (w.0.1, w.0.2, w.1, drop-drop 6 at parcel)
 
   -- the record here, and those from the next place on
   pub stepped : splits (drop at parcel) ≡ (record { kind = kind; payload = take size (drop start parcel) } ∷ (splits (drop (start + size) parcel)).0, (splits (drop (start + size) parcel)).1)
   unfolding record_here
-  stepped = opened (drop at parcel) ∙ rw ((whole-at parcel at kind start size e).0.0, next_is, first_is)
+  stepped = opened (drop at parcel) ∙ rw ((whole_at parcel at kind start size e).0.0, next_is, first_is)
 
 -- at the end there are none
 pub at_end : (parcel : List ℕ) (at : ℕ) → step_at parcel at ≡ End → ((splits (drop at parcel)).0 ≡ []) × (length (splits (drop at parcel)).1 ≡ 0)

@@ -15,7 +15,7 @@ use Rattle.rules.specs.Forms.{Layer, tabulate, area, shrunk, cells}
 use Rattle.rules.specs.Domain.{is_fit}
 use Rattle.rules.specs.Reading.{as_left, cell, luma_gain, luma_offset, stored_chroma}
 use Rattle.rules.specs.Parcel.{row_by_row, gains, offsets, chroma_offsets, cell_numbers, cell_or_zero}
-use Rattle.laws.proofs.Lists.{place_in, length-tabulate, get_d_tabulate}
+use Rattle.laws.proofs.Lists.{place_in, length-tabulate, get_or-tabulate}
 use Rattle.laws.proofs.Accepted.{cells_in}
 use Rattle.parcel_trip.specs.Trip.{Arrived}
 use Rattle.parcel_trip.proofs.Read.{Sound, in_rows}
@@ -26,12 +26,12 @@ module _ (size : ℕ × ℕ) (at : (x y : ℕ) → ℤ) (x y : ℕ) (across : x 
   -- a pixel of a plane
   row_at : get_or (row_by_row size at) (y * size.0 + x) (pos 0) ≡ at x y
   row_at =
-      get_d_tabulate (area size) (λ k. at (k % size.0) (k / size.0)) (y * size.0 + x) (pos 0) (place_in down across)
+      get_or-tabulate (area size) (λ k. at (k % size.0) (k / size.0)) (y * size.0 + x) (pos 0) (place_in down across)
       ∙ rw (digits_mod y across, digits_div y across)
 
   -- with another behind it
-  first-at : (more : List ℤ) → get_or (row_by_row size at ++ more) (y * size.0 + x) (pos 0) ≡ at x y
-  first-at more =
+  first_at : (more : List ℤ) → get_or (row_by_row size at ++ more) (y * size.0 + x) (pos 0) ≡ at x y
+  first_at more =
       let known : y * size.0 + x < length (row_by_row size at) =
       rw (length-tabulate (area size) (λ k. at (k % size.0) (k / size.0))) (place_in down across) in
       get_or-append (row_by_row size at) more (pos 0) (y * size.0 + x) known ∙ row_at
@@ -84,24 +84,24 @@ module _ (l : Layer) (s : Sound l) where
       (rw (twice_long (chroma_offsets l 1) zeros (area chroma) (full _) (full _), twice_long (chroma_offsets l 2) spread (area chroma) (full _) (full _)))
 
   -- the offsets of a plane
-  chroma-at : (plane x y : ℕ) → x < chroma.0 → y < chroma.1 → stored_chroma arrival plane x y ≡ stored_chroma l plane x y
-  chroma-at plane x y across down = ap (λ (z : ℤ). record { 0 = z }) (go (eqb plane 1))
+  chroma_at : (plane x y : ℕ) → x < chroma.0 → y < chroma.1 → stored_chroma arrival plane x y ≡ stored_chroma l plane x y
+  chroma_at plane x y across down = ap (λ (z : ℤ). record { 0 = z }) (go (eqb plane 1))
     where
       go : (b : Bool) → get_or (cond b (in_rows l).chroma.0 (in_rows l).chroma.1) (y * chroma.0 + x) (pos 0) ≡ get_or (cond b l.chroma.0 l.chroma.1) (y * l.pitch.1 + x) (pos 0)
-      go true = first-at chroma (λ x y. (stored_chroma l 1 x y).0) x y across down zeros
-      go false = first-at chroma (λ x y. (stored_chroma l 2 x y).0) x y across down spread
+      go true = first_at chroma (λ x y. (stored_chroma l 1 x y).0) x y across down zeros
+      go false = first_at chroma (λ x y. (stored_chroma l 2 x y).0) x y across down spread
 
   -- an entry behind the offsets of plane 2
   tail_at : (x y : ℕ) → x < chroma.0 → y < chroma.1
       → cell arrival x y ≡ cond (ltb x marked.0 && ltb y marked.1) (get_or (cell_numbers l) (y * marked.0 + x) (pos 0)) (pos 0)
   tail_at x y across down =
       below_at chroma _ spread x y
-      ∙ get_d_tabulate (area chroma) (cell_or_zero (cell_numbers l) l.size chroma.0) (y * chroma.0 + x) (pos 0) (place_in down across)
+      ∙ get_or-tabulate (area chroma) (cell_or_zero (cell_numbers l) l.size chroma.0) (y * chroma.0 + x) (pos 0) (place_in down across)
       ∙ spread_at (cell_numbers l) l.size chroma.0 x y across
 
   -- a cell
-  marks-at : (x y : ℕ) → x < marked.0 → y < marked.1 → cell arrival x y ≡ cell l x y
-  marks-at x y across down =
+  marks_at : (x y : ℕ) → x < marked.0 → y < marked.1 → cell arrival x y ≡ cell l x y
+  marks_at x y across down =
       let k = s.shrinks in
       let wide = cells_in l.size.0 l.ratio k.few.1 k.whole_across in
       let tall = cells_in l.size.1 l.ratio k.few.1 k.whole_down in
@@ -113,11 +113,11 @@ module _ (l : Layer) (s : Sound l) where
   arrived =
       record {
         exact = exact;
-        gains = λ x y across down. ap (λ (z : ℤ). record { 0 = z }) (first-at l.size (λ x y. (luma_gain l x y).0) x y across down (offsets l));
+        gains = λ x y across down. ap (λ (z : ℤ). record { 0 = z }) (first_at l.size (λ x y. (luma_gain l x y).0) x y across down (offsets l));
         offsets = λ x y across down. ap (λ (z : ℤ). record { 0 = z })
             (below_at l.size _ (offsets l) x y ∙ row_at l.size (λ x y. (luma_offset l x y).0) x y across down);
-        chroma = chroma-at;
-        marks = marks-at;
-        first_tail = λ j below. second_at chroma _ zeros j ∙ get_d_tabulate (area chroma) (λ j. pos 0) j (pos 0) below;
+        chroma = chroma_at;
+        marks = marks_at;
+        first_tail = λ j below. second_at chroma _ zeros j ∙ get_or-tabulate (area chroma) (λ j. pos 0) j (pos 0) below;
         second_tail = λ x y across down outside. tail_at x y across down ∙ rw outside;
       }

@@ -20,7 +20,7 @@ use Rattle.laws.proofs.Accepted.{Side, Shrinks}
 use Rattle.laws.proofs.Bytes.{joined, read_back}
 use Rattle.laws.proofs.Parcels.{length_rows}
 use Rattle.parcel_trip.specs.Trip.{Short}
-use Rattle.parcel_trip.proofs.Records.{Fits, AllFit, none, more, split-whole}
+use Rattle.parcel_trip.proofs.Records.{Fits, AllFit, none, more, split_whole}
 
 -- a layer's sizes and its ratio are in 01's domain
 pub record Sound (l : Layer) : Type 0 where
@@ -75,7 +75,7 @@ all_fit l s =
 -- a layer's parcel is split into its six records
 split_parcel : (l : Layer) → Sound l → split (length (parcel_of l)) (parcel_of l) ≡ (layer_records l, [])
 unfolding parcel_of
-split_parcel l s = split-whole (layer_records l) (all_fit l s)
+split_parcel l s = split_whole (layer_records l) (all_fit l s)
 
 -- these are what is read
 pub records_parcel : (l : Layer) → Sound l → records (parcel_of l) ≡ layer_records l

@@ -43,12 +43,12 @@ split_record n r rest f =
     split_after n (record_bytes r ++ rest) r rest (joined_four (length r.payload) f.short) (joined r.kind f.known) refl (omega arith)
 
 -- a run of records is split into them
-pub split-run : (list : List Record) → AllFit list → (n : ℕ) → length list ≤ n → split n (run_bytes list) ≡ (list, [])
+pub split_run : (list : List Record) → AllFit list → (n : ℕ) → length list ≤ n → split n (run_bytes list) ≡ (list, [])
 unfolding run_bytes split
-split-run [] f zero h = refl
-split-run [] f (suc n) h = refl
-split-run (r ∷ rest) f zero h = absurd (omega arith)
-split-run (r ∷ rest) (more f later) (suc n) h = split_record n r (run_bytes rest) f ∙ rw (split-run rest later n (omega arith))
+split_run [] f zero h = refl
+split_run [] f (suc n) h = refl
+split_run (r ∷ rest) f zero h = absurd (omega arith)
+split_run (r ∷ rest) (more f later) (suc n) h = split_record n r (run_bytes rest) f ∙ rw (split_run rest later n (omega arith))
 
 -- and it has no fewer bytes than records
 no_fewer : (list : List Record) → length list ≤ length (run_bytes list)
@@ -57,5 +57,5 @@ no_fewer [] = omega arith
 no_fewer (r ∷ rest) = omega (arith, no_fewer rest, length-append r.payload (run_bytes rest))
 
 -- so all that a parcel's readers split is its records
-pub split-whole : (list : List Record) → AllFit list → split (length (run_bytes list)) (run_bytes list) ≡ (list, [])
-split-whole list f = split-run list f (length (run_bytes list)) (no_fewer list)
+pub split_whole : (list : List Record) → AllFit list → split (length (run_bytes list)) (run_bytes list) ≡ (list, [])
+split_whole list f = split_run list f (length (run_bytes list)) (no_fewer list)

@@ -11,7 +11,7 @@ use Rattle.rules.specs.Domain.{parcel_length}
 use Rattle.rules.specs.Reading.{cell, luma_gain, luma_offset, stored_chroma}
 use Rattle.rules.specs.Parcel.{written, Record, record_bytes, run_bytes, head_bytes, row_by_row, layer_records, parcel_of}
 use Rattle.laws.proofs.Lists.{table_same}
-use Rattle.laws.proofs.Parcels.{length_record, length_run, length-head, length_rows, run-append, parcel_long}
+use Rattle.laws.proofs.Parcels.{length_record, length_run, length_head, length_rows, run_append, parcel_long}
 use Rattle.plane.specs.Slices.{slice}
 use Rattle.table.specs.Put.{Put}
 use Rattle.table.proofs.Put.{put_none, put_as, put_join, put_whole}
@@ -47,7 +47,7 @@ head_of size ratio = record { kind = 1; payload = head_bytes size ratio }
 head_then : {before now after : List ℕ} (size : ℕ × ℕ) (ratio : ℕ) (rest : List Record) → Put before 0 (record_bytes (head_of size ratio)) now
     → Put now 12 (run_bytes rest) after → Put before 0 (run_bytes (head_of size ratio ∷ rest)) after
 unfolding run_bytes
-head_then size ratio rest first more = put_join first (rw (length_record (head_of size ratio), length-head size ratio)) more
+head_then size ratio rest first more = put_join first (rw (length_record (head_of size ratio), length_head size ratio)) more
 
 -- the record of a run that holds what a plane does
 run_then : {before now after : List ℕ} {at next : ℕ} (kind : ℕ) (size : ℕ × ℕ) (f : (x y : ℕ) → ℤ) (rest : List Record) {list : List ℤ}
@@ -93,20 +93,20 @@ module _ (s : Shape) (numbers : Numbers) where
         length_run (head_of size s.ratio) (gains ∷ offsets ∷ []),
         length_run gains (offsets ∷ []),
         length_run offsets [],
-        length-head size s.ratio,
+        length_head size s.ratio,
         length_rows size (λ x y. (luma_gain l x y).0),
         length_rows size (λ x y. (luma_offset l x y).0),
       )
 
   -- chroma's rows are so many, and so wide; the cells are behind them
   module _ (across rows w h : ℕ) (is-across : across ≡ s.width / s.ratio) (is-rows : rows ≡ s.height / s.ratio) (is-w : w ≡ cells s.width) (is-h : h ≡ cells s.height) where
-    pub chroma-put : {parcel first second after : List ℕ} {at : ℕ} (next last : ℕ)
+    pub chroma_put : {parcel first second after : List ℕ} {at : ℕ} (next last : ℕ)
         → Put parcel at (record_bytes (record_of 4 (row_by_row (across, rows) (entry_of (slice numbers 1) 0 s.chroma_pitch)))) first → next ≡ at + 6 + 2 * (across * rows)
         → Put first next (record_bytes (record_of 5 (row_by_row (across, rows) (entry_of (slice numbers 2) 0 s.chroma_pitch)))) second → last ≡ next + 6 + 2 * (across * rows)
         → Put second last (record_bytes (record_of 6 (row_by_row (w, h) (entry_of (slice numbers 2) (rows * s.chroma_pitch) s.chroma_pitch)))) after
         → Put parcel at (run_bytes (drop 3 (layer_records (of_numbers s numbers)))) after
     unfolding layer_records
-    chroma-put next last a e b f c =
+    chroma_put next last a e b f c =
         let l = of_numbers s numbers in
         let pitch = s.chroma_pitch in
         let chroma : ℕ × ℕ = (s.width / s.ratio, s.height / s.ratio) in
@@ -124,5 +124,5 @@ module _ (s : Shape) (numbers : Numbers) where
       let l = of_numbers s numbers in
       let first = take 3 (layer_records l) in
       let rest = drop 3 (layer_records l) in
-      let whole : run_bytes first ++ run_bytes rest ≡ parcel_of l = sym (run-append first rest) ∙ ap run_bytes (take-append-drop 3 (layer_records l)) in
+      let whole : run_bytes first ++ run_bytes rest ≡ parcel_of l = sym (run_append first rest) ∙ ap run_bytes (take-append-drop 3 (layer_records l)) in
       put_whole (put_as (put_join a (e ∙ sym (zero-add (length (run_bytes first)) ∙ luma_long)) b) whole) (long ∙ sym (parcel_long l))

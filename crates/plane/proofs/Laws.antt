@@ -104,14 +104,14 @@ tests_same true q f g = sym (f refl)
 tests_same false true f g = g refl
 tests_same false false f g = refl
 
-pub leb-same : (a b c d : ℕ) → (a ≤ b → c ≤ d) → (c ≤ d → a ≤ b) → leb a b ≡ leb c d
-leb-same a b c d f g = tests_same (leb a b) (leb c d) (λ t. le-leb c d (f (leb-true a b t))) (λ t. le-leb a b (g (leb-true c d t)))
+pub leb_same : (a b c d : ℕ) → (a ≤ b → c ≤ d) → (c ≤ d → a ≤ b) → leb a b ≡ leb c d
+leb_same a b c d f g = tests_same (leb a b) (leb c d) (λ t. le-leb c d (f (leb-true a b t))) (λ t. le-leb a b (g (leb-true c d t)))
 
 -- rows a pitch apart fit where their number is at most the quotient
 pub quotient : (size rows pitch more : ℕ) → more ≤ size → (pitch ≡ 0 → ⊥) → leb rows ((size - more) / pitch) ≡ leb (rows * pitch + more) size
 quotient size rows pitch more room some =
     let p : 0 < pitch = omega arith in
-    leb-same rows ((size - more) / pitch) (rows * pitch + more) size
+    leb_same rows ((size - more) / pitch) (rows * pitch + more) size
     (λ h. let k = (le-div_iff_mul-le {k = pitch} {x = rows} {y = size - more} p).0 h in omega arith)
     (λ h. (le-div_iff_mul-le {k = pitch} {x = rows} {y = size - more} p).1 (omega arith))
 
@@ -130,4 +130,4 @@ product n a b some = go (eqb (n % b) 0) refl
 -- twice as much fits where as much fits a half
 pub halved : (size rows pitch : ℕ) → leb (rows * pitch + 0) (size / 2) ≡ leb (2 * (pitch * rows)) size
 halved size rows pitch =
-    leb-same (rows * pitch + 0) (size / 2) (2 * (pitch * rows)) size (λ h. omega (arith, mul_comm rows pitch)) (λ h. omega (arith, mul_comm rows pitch))
+    leb_same (rows * pitch + 0) (size / 2) (2 * (pitch * rows)) size (λ h. omega (arith, mul_comm rows pitch)) (λ h. omega (arith, mul_comm rows pitch))

@@ -9,7 +9,7 @@ use Rattle.rules.specs.Literals.{1·0, 16·0}
 use Rattle.rules.specs.Float.{◌⊕◌, ◌⊖◌, abs}
 use Rattle.rules.specs.Scene.{value, is_lifted}
 use Rattle.rules.specs.Render.{margin, exchanged}
-use Rattle.laws.proofs.Order.{le_trans_float, not-lt_of_le}
+use Rattle.laws.proofs.Order.{le_trans_float, not_lt_of_le}
 use Rattle.laws.proofs.Value.{T_of}
 use Rattle.float.proofs.Index.{max_right}
 use Rattle.render_choice.specs.Kept.{is_within}
@@ -26,7 +26,7 @@ sixteen = tt
 pub near_within : (gap reach : Float) → le gap 16·0 ≡ true → true ≡ is_within gap reach
 near_within gap reach t =
     no (lt (margin reach) gap)
-    (not-lt_of_le gap (margin reach) (le_trans_float gap 16·0 (margin reach) (T_of _ t) (max_right (reach ⊕ 1·0) 16·0 sixteen)))
+    (not_lt_of_le gap (margin reach) (le_trans_float gap 16·0 (margin reach) (T_of _ t) (max_right (reach ⊕ 1·0) 16·0 sixteen)))
 
 -- where the layer is on at both sides or at none, nothing is exchanged
 pub alike_is : (mine other : Moved) (gap : Float) → cond mine.on other.on (not other.on) ≡ true → exchanged mine other gap ≡ mine.scene

@@ -10,8 +10,8 @@ use Rattle.rules.specs.Float.{◌⊕◌, ◌⊗◌, mix}
 use Rattle.rules.specs.Reading.{texel, at}
 use Rattle.rules.specs.Scene.{under, scene}
 use Rattle.rules.specs.Render.{base, composed}
-use Rattle.laws.proofs.Points.{model-whole}
-use Rattle.scene_whole.proofs.Points.{sample-whole}
+use Rattle.laws.proofs.Points.{model_whole}
+use Rattle.scene_whole.proofs.Points.{sample_whole}
 use Rattle.render_choice.specs.Kept.{is_kept}
 use Rattle.render_pixel.specs.Shown.{base_by}
 
@@ -21,7 +21,7 @@ pub base_is : (l : Layer) (plane : ℕ) (f : Frames) (x y : ℕ) → x ≤ 4096 
     → base_by (texel l plane x y) (at f.first x y) (at f.second x y) f.time ≡ base l plane f x y
 unfolding base scene under
 base_is l plane f x y X Y first second =
-    rw (model-whole l plane x y X Y, sample-whole f.first x y _ X Y first, sample-whole f.second x y _ X Y second)
+    rw (model_whole l plane x y X Y, sample_whole f.first x y _ X Y first, sample_whole f.second x y _ X Y second)
 
 -- own bytes, or the scene with the layer on it
 module _ (m : Model) (layered : Bool) (first second time scene : Float) where

@@ -68,17 +68,17 @@ module _ (j : Job) (numbers : Numbers) (bytes frames fields : Bytes) (w : Works 
       let own = so ∙ ap (timed j.plan.shape.time) (mixed ∙ carried_steps m j.plan.span x y c (rw rows at carries)) in
       rw r (change_is (layer_in j numbers bytes) j.plan.shape.plane (frames_in j frames) m j.algo x y old s (rw r at own) (gap-far x y d true (near.one x (omega arith) (omega arith)) near.near))
 
-  pub far-cell : (y from to : ℕ) (d : ℤ) → ((k : ℕ) → from ≤ k → k < to → distance (layer_in j numbers bytes) j.plan.shape.plane k y ≡ d)
+  pub far_cell : (y from to : ℕ) (d : ℤ) → ((k : ℕ) → from ≤ k → k < to → distance (layer_in j numbers bytes) j.plan.shape.plane k y ≡ d)
       → is_within (gap_of d) j.far ≡ false → (k : ℕ) → from ≤ k → k < to → (rule_in j numbers bytes frames fields).writes k y ≡ false
-  far-cell y from to d one t k low high = far_is _ _ _ _ _ k y (gap-far k y d false (one k low high) t)
+  far_cell y from to d one t k low high = far_is _ _ _ _ _ k y (gap-far k y d false (one k low high) t)
 
 -- a part of a part
-pub near-part : {j : Job} {l : Layer} {y from to : ℕ} {d : ℤ} (x end : ℕ) → Near j l y from to d → from ≤ x → end ≤ to → Near j l y x end d
-near-part x end near low high = record { one = λ k above below. near.one k (omega arith) (omega arith); near = near.near }
+pub near_part : {j : Job} {l : Layer} {y from to : ℕ} {d : ℤ} (x end : ℕ) → Near j l y from to d → from ≤ x → end ≤ to → Near j l y x end d
+near_part x end near low high = record { one = λ k above below. near.one k (omega arith) (omega arith); near = near.near }
 
 -- the pixels of a row in one cell have one stored distance
-pub cell-one : (p : Plan) → Planned p → (luma first second : List ℤ) (y from to : ℕ) (d : ℤ) → CellEnd from p.side p.across to
+pub cell_one : (p : Plan) → Planned p → (luma first second : List ℤ) (y from to : ℕ) (d : ℤ) → CellEnd from p.side p.across to
     → d ≡ distance (holding p.shape [] [] second) p.shape.plane from y
     → (k : ℕ) → from ≤ k → k < to → distance (holding p.shape luma first second) p.shape.plane k y ≡ d
 unfolding distance
-cell-one p h luma first second y from to d cell is k low high = rw (is, rw h.is at (cell.same k low high))
+cell_one p h luma first second y from to d cell is k low high = rw (is, rw h.is at (cell.same k low high))

@@ -13,9 +13,9 @@ use Rattle.lift_rows.specs.Rows.{RunAsks, RowAsks, RowOn}
 use Rattle.lift_rows.proofs.Cells.{run_none, run_more}
 
 -- one pixel
-pub run-one : {rule : Rule} {pitch y x : ℕ} {bytes after : List ℕ} {n r : ℕ} {d : Change} → d ≡ change rule x y (get_or bytes (y * pitch + x) 0)
+pub run_one : {rule : Rule} {pitch y x : ℕ} {bytes after : List ℕ} {n r : ℕ} {d : Change} → d ≡ change rule x y (get_or bytes (y * pitch + x) 0)
     → Stamped bytes (y * pitch + x) d n after r → RowOn rule pitch y x (x + 1) n bytes after r
-run-one e s = run_more (omega arith) (run_none _ _ _ _ _ _) e s
+run_one e s = run_more (omega arith) (run_none _ _ _ _ _ _) e s
 
 -- a part after another
 pub run_join : {rule : Rule} {pitch y from x to count n r : ℕ} {before bytes after : List ℕ} → from ≤ x → x ≤ to
@@ -23,8 +23,8 @@ pub run_join : {rule : Rule} {pitch y from x to count n r : ℕ} {before bytes a
 run_join low high a b = record { on = λ first start done. b.on first start (a.on first start done); few = omega (arith, a.few, b.few) }
 
 -- all of a row
-pub run-whole : {rule : Rule} {pitch y to count r : ℕ} {before after : List ℕ} → RowOn rule pitch y 0 to count before after r → RowDone rule pitch y to count before after r
-run-whole {rule} {pitch} {y} {count = count} {before = before} a = a.on before count (row_none rule pitch y count before)
+pub run_whole : {rule : Rule} {pitch y to count r : ℕ} {before after : List ℕ} → RowOn rule pitch y 0 to count before after r → RowDone rule pitch y to count before after r
+run_whole {rule} {pitch} {y} {count = count} {before = before} a = a.on before count (row_none rule pitch y count before)
 
 -- a part of a part, or of a row, after some of it is done
 module _ (now : List ℕ) (x end n : ℕ) (ahead : x < end) where

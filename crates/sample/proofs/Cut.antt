@@ -13,8 +13,8 @@ use Rattle.rules.specs.Literals.{0·0}
 use Rattle.rules.specs.Float.{float, cut, clamp, negative}
 use Rattle.rules.specs.Reading.{held_to}
 use Rattle.laws.proofs.Value.{not_of}
-use Rattle.laws.proofs.Order.{not-lt_of_le}
-use Rattle.float.proofs.Index.{cut_nought, cut-clamp}
+use Rattle.laws.proofs.Order.{not_lt_of_le}
+use Rattle.float.proofs.Index.{cut_nought, cut_clamp}
 use Rattle.laws.proofs.Whole.{zero_is, int_le}
 use Rattle.sample.specs.Points.{positive_of, Held}
 
@@ -86,7 +86,7 @@ origin n h = rw zero_is at (int_le binary32 (pos 0) (pos n) zero-le h (le→leb 
 pub low_first : (x : Float) (n : ℕ) → n ≤ 2 ^ 24
     → cond (lt (float n) (cond (lt x 0·0) 0·0 x)) (float n) (cond (lt x 0·0) 0·0 x) ≡ clamp x 0·0 (float n)
 unfolding clamp
-low_first x n h = go (lt x 0·0) (lt (float n) 0·0) refl (λ t. not-lt_of_le 0·0 (float n) (origin n h) t)
+low_first x n h = go (lt x 0·0) (lt (float n) 0·0) refl (λ t. not_lt_of_le 0·0 (float n) (origin n h) t)
   where
     go : (a b : Bool) → b ≡ lt (float n) 0·0 → (T b → ⊥) → cond (lt (float n) (cond a 0·0 x)) (float n) (cond a 0·0 x) ≡ cond a 0·0 (cond (lt (float n) x) (float n) x)
     go true true e f = absurd (f tt)
@@ -98,4 +98,4 @@ pub held : (x r : Float) (size : ℕ) → (1 ≤ size) × (size ≤ 4096) → r 
 held x r size h e =
     let n : size - 1 ≤ 2 ^ 24 = omega arith in
     let is : r ≡ held_to x size = e ∙ low_first x (size - 1) n in
-    record { is = is; within = rw is (lt_of_le_of_lt (cut-clamp x (size - 1) n) (omega arith)) }
+    record { is = is; within = rw is (lt_of_le_of_lt (cut_clamp x (size - 1) n) (omega arith)) }

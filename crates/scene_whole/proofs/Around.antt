@@ -21,8 +21,8 @@ use Rattle.laws.proofs.Whole.{mul_int}
 use Rattle.layer_lent.specs.declared.Plan.{Plan}
 use Rattle.layer_lent.specs.Lent.{holding, Planned, Inside}
 use Rattle.scene_whole.specs.Rings.{held_at, seen, gathered_on, row_ring, whole_ring, means}
-use Rattle.laws.proofs.Points.{model-whole}
-use Rattle.scene_whole.proofs.Points.{sample-whole}
+use Rattle.laws.proofs.Points.{model_whole}
+use Rattle.scene_whole.proofs.Points.{sample_whole}
 use Rattle.scene_whole.proofs.Moved.{held_left, held_middle, held_right}
 
 -- ---- a coordinate of a ring
@@ -58,7 +58,7 @@ module _ (l : Layer) (plane : ℕ) (raw : Plane) (small : (k : ℕ) → get_or r
   -- the scene at a whole point
   pub under_whole : (x y : ℕ) → x ≤ 4096 → y ≤ 4096 → under l plane raw (float x) (float y) ≡ seen l plane raw x y
   unfolding under seen
-  under_whole x y X Y = rw (sample-whole raw x y (plane_size l plane) X Y small, model-whole l plane x y X Y)
+  under_whole x y X Y = rw (sample_whole raw x y (plane_size l plane) X Y small, model_whole l plane x y X Y)
 
   -- ---- a ring of a whole radius
 
@@ -98,9 +98,9 @@ module _ (l : Layer) (plane : ℕ) (raw : Plane) (small : (k : ℕ) → get_or r
     abbrev radius : ℕ
     radius = 4 / plane_ratio l plane
 
-    ring-whole : (times : ℕ) → 1 ≤ times → times ≤ 3 → ring l plane raw (float x) (float y) times ≡ whole_ring l plane raw (plane_size l plane) x y (radius * times) 3
+    ring_whole : (times : ℕ) → 1 ≤ times → times ≤ 3 → ring l plane raw (float x) (float y) times ≡ whole_ring l plane raw (plane_size l plane) x y (radius * times) 3
     unfolding ring
-    ring-whole times some few =
+    ring_whole times some few =
         let s = radius_in (plane_ratio l plane) low high in
         let m = mul-le-mul s.1 few in
         let n = mul-le-mul s.0 some in
@@ -109,19 +109,19 @@ module _ (l : Layer) (plane : ℕ) (raw : Plane) (small : (k : ℕ) → get_or r
 
     pub filled_is : (v : Float) → filled l plane raw (float x) (float y) (Raw v) ≡ means l plane raw (plane_size l plane) x y radius 3 (Raw v)
     unfolding filled means
-    filled_is v = rw (ring-whole 1 (lit≤ tt) (lit≤ tt), ring-whole 2 (lit≤ tt) (lit≤ tt), ring-whole 3 (lit≤ tt) (lit≤ tt))
+    filled_is v = rw (ring_whole 1 (lit≤ tt) (lit≤ tt), ring_whole 2 (lit≤ tt) (lit≤ tt), ring_whole 3 (lit≤ tt) (lit≤ tt))
 
 -- ---- from ring to ring
 
-means-from : (l : Layer) (plane : ℕ) (raw : Plane) (size : ℕ × ℕ) (x y radius times : ℕ) (other : Scene) → 1 ≤ times → times ≤ 3
+means_from : (l : Layer) (plane : ℕ) (raw : Plane) (size : ℕ × ℕ) (x y radius times : ℕ) (other : Scene) → 1 ≤ times → times ≤ 3
     → means l plane raw size x y radius (4 - times) other
     ≡ mean_or (whole_ring l plane raw size x y (radius * times) 3) (means l plane raw size x y radius (4 - (times + 1)) other)
 unfolding means
-means-from l plane raw size x y radius zero other low high = absurd (omega arith)
-means-from l plane raw size x y radius (suc zero) other low high = refl
-means-from l plane raw size x y radius (suc (suc zero)) other low high = refl
-means-from l plane raw size x y radius (suc (suc (suc zero))) other low high = refl
-means-from l plane raw size x y radius (suc (suc (suc (suc n)))) other low high = absurd (omega arith)
+means_from l plane raw size x y radius zero other low high = absurd (omega arith)
+means_from l plane raw size x y radius (suc zero) other low high = refl
+means_from l plane raw size x y radius (suc (suc zero)) other low high = refl
+means_from l plane raw size x y radius (suc (suc (suc zero))) other low high = refl
+means_from l plane raw size x y radius (suc (suc (suc (suc n)))) other low high = absurd (omega arith)
 
 -- a ring with any, or with none
 pub means_by : (l : Layer) (plane : ℕ) (raw : Plane) (size : ℕ × ℕ) (x y radius times : ℕ) (other : Scene) (r : Ring) (some : Bool) → 1 ≤ times → times ≤ 3
@@ -129,7 +129,7 @@ pub means_by : (l : Layer) (plane : ℕ) (raw : Plane) (size : ℕ × ℕ) (x y 
     → means l plane raw size x y radius (4 - times) other ≡ cond some (Lifted (r.total ⊘ r.count)) (means l plane raw size x y radius (4 - (times + 1)) other)
 unfolding mean_or
 means_by l plane raw size x y radius times other r some low high e t =
-    means-from l plane raw size x y radius times other low high ∙ rw (← e) (simp t)
+    means_from l plane raw size x y radius times other low high ∙ rw (← e) (simp t)
 
 -- ---- over the plane of a plan
 

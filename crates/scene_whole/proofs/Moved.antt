@@ -13,7 +13,7 @@ use Rattle.rules.specs.Literals.{0·0}
 use Rattle.rules.specs.Float.{◌⊕◌, ◌⊗◌, float, signed, clamp}
 use Rattle.rules.specs.Reading.{held_to}
 use Rattle.rules.specs.Scene.{sign}
-use Rattle.laws.proofs.Order.{not-lt_of_le, le_of_not_lt, le_left}
+use Rattle.laws.proofs.Order.{not_lt_of_le, le_of_not_lt, le_left}
 use Rattle.laws.proofs.Whole.{zero_is, int_le, le_int, add_int, mul_int}
 
 -- ---- the order of whole numbers as floats
@@ -28,7 +28,7 @@ yes false f = absurd (f tt)
 
 -- not below, where at least
 at_least : (a b : ℤ) → nat_abs a ≤ 2 ^ 24 → nat_abs b ≤ 2 ^ 24 → T (le_z b a) → lt (signed a) (signed b) ≡ false
-at_least a b A B h = no (lt (signed a) (signed b)) (not-lt_of_le (signed b) (signed a) (int_le binary32 b a B A h))
+at_least a b A B h = no (lt (signed a) (signed b)) (not_lt_of_le (signed b) (signed a) (int_le binary32 b a B A h))
 
 le_z_refl : (z : ℤ) → T (le_z z z)
 le_z_refl (pos n) = le→leb n n (omega arith)

@@ -43,9 +43,9 @@ nothing : (s : Bool) (c : ℕ) → 0 < c → round binary32 s 0 c ≡ fin s 0 (p
 unfolding round
 nothing s c C = round_same binary32 s 0 c 0 1 C (lit< tt) (sym (zero-mul c)) ∙ refl
 
-zero-written : 0·0 ≡ fin false 0 (pos 0)
+zero_written : 0·0 ≡ fin false 0 (pos 0)
 unfolding of_bits
-zero-written = refl
+zero_written = refl
 
 product : (u : Bool) (m : ℕ) (e : ℤ) → fin u m e ⊗ fin false 0 (pos 0) ≡ round binary32 (unlike u false) (m * up e * (0 * 1)) (down e * 1)
 unfolding mul
@@ -53,11 +53,11 @@ product u m e = refl
 
 times_zero : (y : Float) (t : Bool) (k : ℕ) → HasValue y t k 1 → y ⊗ 0·0 ≡ fin (unlike t false) 0 (pos 0)
 times_zero y t k v = by_value (λ y. y ⊗ 0·0 ≡ fin (unlike t false) 0 (pos 0)) y t k 1 v (λ m e q.
-    rw (zero-written, product t m e, mul-zero (m * up e), mul-one (down e)) (nothing (unlike t false) (down e) (down_pos e)))
+    rw (zero_written, product t m e, mul-zero (m * up e), mul-one (down e)) (nothing (unlike t false) (down e) (down_pos e)))
 
-plus-zero : (a : ℕ) (s : Bool) → a ≤ 2 ^ 24 → float a ⊕ fin s 0 (pos 0) ≡ float a
+plus_zero : (a : ℕ) (s : Bool) → a ≤ 2 ^ 24 → float a ⊕ fin s 0 (pos 0) ≡ float a
 unfolding sum of_int
-plus-zero a s h = add_at binary32 (float a) (fin s 0 (pos 0)) false a s 0 (int_value binary32 (pos a) h) (refl, refl) ∙ go s
+plus_zero a s h = add_at binary32 (float a) (fin s 0 (pos 0)) false a s 0 (int_value binary32 (pos a) h) (refl, refl) ∙ go s
   where
     go : (s : Bool) → sum binary32 false a s 0 1 ≡ round binary32 false a 1
     go true = simp (le-ltb a 0 (omega arith), sub-zero a)
@@ -65,7 +65,7 @@ plus-zero a s h = add_at binary32 (float a) (fin s 0 (pos 0)) false a s 0 (int_v
 
 mix_none : (a b : ℕ) → a ≤ 2 ^ 24 → b ≤ 2 ^ 24 → mix (float a) (float b) 0·0 ≡ float a
 unfolding mix
-mix_none a b A B = rw (times_zero _ _ _ (whole_difference a b A B)) (plus-zero a _ A)
+mix_none a b A B = rw (times_zero _ _ _ (whole_difference a b A B)) (plus_zero a _ A)
 
 none_left : (n : ℕ) → n ≤ 4096 → fraction (float n) ≡ 0·0
 unfolding sum round of_bits
@@ -75,9 +75,9 @@ none_left n h =
 
 -- ---- whole points
 
-pub sample-whole : (p : Plane) (x y : ℕ) (size : ℕ × ℕ) → x ≤ 4096 → y ≤ 4096 → ((k : ℕ) → get_or p.bytes k 0 ≤ 255)
+pub sample_whole : (p : Plane) (x y : ℕ) (size : ℕ × ℕ) → x ≤ 4096 → y ≤ 4096 → ((k : ℕ) → get_or p.bytes k 0 ≤ 255)
     → sample p (float x) (float y) size ≡ at p x y
 unfolding sample
-sample-whole p x y size X Y small =
+sample_whole p x y size X Y small =
     let row : (k : ℕ) → mix (at p x k) (at p (after x size.0) k) 0·0 ≡ at p x k = λ k. mix_none _ _ (le_trans (small _) (lit≤ tt)) (le_trans (small _) (lit≤ tt)) in
     rw (none_left x X, none_left y Y, cut-float x X, cut-float y Y, row y, row (after y size.1)) (mix_none _ _ (le_trans (small _) (lit≤ tt)) (le_trans (small _) (lit≤ tt)))

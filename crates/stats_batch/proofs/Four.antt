@@ -32,8 +32,8 @@ module _ (m : Motion) (ratio : ℕ) (down : Taps) (x n : ℕ) (r : Shifts) where
         holds = carries.holds;
       }
 
-  pub all-steps : (k : ℕ) → Stepping m ratio down x n k r → n ≤ k → Shifted m ratio down x n r
-  all-steps k done above =
+  pub all_steps : (k : ℕ) → Stepping m ratio down x n k r → n ≤ k → Shifted m ratio down x n r
+  all_steps k done above =
       record {
         fx = all_done _ _ _ r.fx k done.fx above;
         fy = all_done _ _ _ r.fy k done.fy above;

@@ -10,7 +10,7 @@ use lib.Seq.{get_or-set_same, get_or-set_other}
 use lib.Ieee.{Float, nan}
 use Rattle.rules.specs.Float.{cut}
 use Rattle.rules.specs.Reading.{held_to}
-use Rattle.float.proofs.Index.{cut-clamp}
+use Rattle.float.proofs.Index.{cut_clamp}
 use Rattle.stats_batch.specs.Lanes.{Lanes, Filling, Inside}
 
 module _ {A : Type 0} (n : ℕ) (none : A) (f : ℕ → A) (l : List A) where
@@ -44,7 +44,7 @@ known n size p wholes k are inside below = (are k below, rw (are k below) (insid
 
 -- coordinates held to a side lie on it
 pub on_side : (n size : ℕ) (f : ℕ → Float) (l : List Float) → 1 ≤ size → size ≤ 4096 → Lanes n nan (λ k. held_to (f k) size) l → Inside n size l
-on_side n size f l some most are k h = rw (are k h) (lt_of_le_of_lt (cut-clamp (f k) (size - 1) (omega arith)) (omega arith))
+on_side n size f l some most are k h = rw (are k h) (lt_of_le_of_lt (cut_clamp (f k) (size - 1) (omega arith)) (omega arith))
 
 -- and can be cut
 pub small : (n size : ℕ) (l : List Float) → size ≤ 4096 → Inside n size l → Inside n 4097 l

@@ -60,12 +60,12 @@ unfolding run_added turns
 run_more pairs many ts place k at before l t r so_far there these more = rw (add-one k, more, these, there, so_far)
 
 -- a run is added by the terms of its own pixels alone
-pub run-same : (pairs many : ℕ) (ts us : ℕ → List Float) (place n : ℕ) (l : List Float) → ((k : ℕ) → k < n → ts k ≡ us k)
+pub run_same : (pairs many : ℕ) (ts us : ℕ → List Float) (place n : ℕ) (l : List Float) → ((k : ℕ) → k < n → ts k ≡ us k)
     → run_added pairs many ts place n l ≡ run_added pairs many us place n l
 unfolding run_added turns
-run-same pairs many ts us place zero l same = refl
-run-same pairs many ts us place (suc n) l same =
-    rw (same n (omega arith), run-same pairs many ts us place n l (λ k h. same k (omega arith)))
+run_same pairs many ts us place zero l same = refl
+run_same pairs many ts us place (suc n) l same =
+    rw (same n (omega arith), run_same pairs many ts us place n l (λ k h. same k (omega arith)))
 
 -- a run is added by the samples of its moved pixels
 pub run_is : (pairs many : ℕ) (f : Pass) (down : Taps) (x y n place : ℕ) (s : Shifts) (pb pa before after : List Float)
@@ -76,26 +76,26 @@ pub run_is : (pairs many : ℕ) (f : Pass) (down : Taps) (x y n place : ℕ) (s 
     → after ≡ run_added pairs many (λ k. six_terms (get_or pb k nan) (get_or pa k nan) (at f.second (x + k) y) (at f.first (x + k) y)) place n before
     → after ≡ run_added pairs many (λ k. terms_of f (x + k) y) place n before
 run_is pairs many f down x y n place s pb pa before after d steps b a added =
-    added ∙ run-same pairs many _ _ place n before
+    added ∙ run_same pairs many _ _ place n before
     (λ k h. lane_terms f (x + k) y down (get_or pb k nan) (get_or pa k nan) (lane k) d (rw (steps.fx k h, steps.fy k h, steps.bx k h, steps.by k h)) (b k h) (a k h))
   where
     lane : ℕ → Steps
     lane k = record { fx = get_or s.fx k nan; fy = get_or s.fy k nan; bx = get_or s.bx k nan; by = get_or s.by k nan }
 
 -- a run after another
-run-after : (pairs many : ℕ) (ts : ℕ → List Float) (place x n : ℕ) (l : List Float)
+run_after : (pairs many : ℕ) (ts : ℕ → List Float) (place x n : ℕ) (l : List Float)
     → run_added pairs many (λ j. ts (x + j)) (place + many * x) n (run_added pairs many ts place x l) ≡ run_added pairs many ts place (x + n) l
 unfolding run_added turns
-run-after pairs many ts place x zero l = rw (add-zero x)
-run-after pairs many ts place x (suc n) l =
-    rw (add-suc x n, run-after pairs many ts place x n l, add_assoc place (many * x) (many * n), ← (mul-add many x n))
+run_after pairs many ts place x zero l = rw (add-zero x)
+run_after pairs many ts place x (suc n) l =
+    rw (add-suc x n, run_after pairs many ts place x n l, add_assoc place (many * x) (many * n), ← (mul-add many x n))
 
 -- the pixels of a row so far, and a run more
 pub row_more : (pairs many : ℕ) (f : Pass) (y place x n k : ℕ) (before l r : List Float) → l ≡ row_added pairs many f y place x before
     → k ≡ place + many * x → r ≡ run_added pairs many (λ j. terms_of f (x + j) y) k n l → r ≡ row_added pairs many f y place (x + n) before
 unfolding row_added
 row_more pairs many f y place x n k before l r so_far there more =
-    rw (more, so_far, there) (run-after pairs many (λ j. terms_of f j y) place x n before)
+    rw (more, so_far, there) (run_after pairs many (λ j. terms_of f j y) place x n before)
 
 -- a pixel of a run, in a byte plane
 pub in_part : {raw : List ℕ} {pitch : ℕ} {run : Run} {n : ℕ} (k : ℕ) → RowPart raw pitch run n → k < n
@@ -114,8 +114,8 @@ part_of {raw} {pitch} {width} {height} run fits across down =
     }
 
 -- a pixel's places lie within the run's
-pub one-room : (many k n : ℕ) → k < n → many * k + many ≤ many * n
-one-room many k n h = rw (mul-suc many k) at (mul-le-mul_left many h)
+pub one_room : (many k n : ℕ) → k < n → many * k + many ≤ many * n
+one_room many k n h = rw (mul-suc many k) at (mul-le-mul_left many h)
 
 pub one_next : (many k place at : ℕ) → at ≡ place + many * k → at + many ≡ place + many * (k + 1)
 one_next many k place at e = let m : many * (k + 1) ≡ many * k + many = rw (add-one k) (mul-suc many k) in omega arith

@@ -12,7 +12,7 @@ use Rattle.rules.specs.Forms.{turns, area}
 use Rattle.rules.specs.Float.{◌⊕◌}
 use Rattle.rules.specs.Stats.{added}
 use Rattle.laws.specs.Filled.{filled}
-use Rattle.laws.proofs.Filled.{filled-after, filled_more, filled-all}
+use Rattle.laws.proofs.Filled.{filled_after, filled_more, filled_all}
 use Rattle.stats_add.specs.Added.{start_of, one_added, terms_added}
 use Rattle.stats_gather.specs.Sums.{run_added, Pass, terms_of, row_added, rows_added}
 
@@ -31,7 +31,7 @@ module _ (pairs many : ℕ) (f : Pass) (old : List Float) where
   -- a sum more
   one : (k : ℕ) (l : List Float) (term : Float) → l ≡ filled k entry old → start_of pairs (get_or old k nan) ⊕ term ≡ entry k
       → one_added pairs term k l ≡ filled (suc k) entry old
-  one k l term so_far e = rw (so_far, filled-after entry old k k nan (omega arith), e) (filled_more entry old k)
+  one k l term so_far e = rw (so_far, filled_after entry old k k nan (omega arith), e) (filled_more entry old k)
 
   -- a pixel's first n terms
   pixel : (ts : List Float) (k : ℕ) (l : List Float) → l ≡ filled k entry old
@@ -73,4 +73,4 @@ module _ (pairs many : ℕ) (f : Pass) (old : List Float) where
   pub table : length old ≡ many * area f.size → rows_added pairs many f f.size.1 old ≡ added pairs many old f.first f.second f.motion f.size f.ratio
   unfolding added
   table long =
-      rows f.size.1 ∙ ap (λ (n : ℕ). filled (many * n) entry old) (mul_comm f.size.1 width) ∙ filled-all entry old nan (many * area f.size) long
+      rows f.size.1 ∙ ap (λ (n : ℕ). filled (many * n) entry old) (mul_comm f.size.1 width) ∙ filled_all entry old nan (many * area f.size) long

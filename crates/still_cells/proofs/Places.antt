@@ -42,9 +42,9 @@ all_rows across down = rw (mul_left_comm down 255 across, mul_comm down across)
 
 -- ---- the pixels of a row, and the rows of a plane
 
-pub pixel-cells : {bytes : List ℕ} {width across down size x y : ℕ} → RowCells bytes width across down size y → x < size
+pub pixel_cells : {bytes : List ℕ} {width across down size x y : ℕ} → RowCells bytes width across down size y → x < size
     → PixelCells bytes width across down x y
-pixel-cells {width = width} {across} {down} {size} {x} {y} p before =
+pixel_cells {width = width} {across} {down} {size} {x} {y} p before =
     let near = p.near in
     let small = p.small in
     let wide = p.wide in

@@ -11,7 +11,7 @@ use lib.ListN.{length, set}
 use lib.Seq.{get_or-set_same, get_or-set_other}
 use Rattle.rules.specs.Reading.{after}
 use Rattle.still_pass.specs.Pass.{PlaneIn}
-use Rattle.still_pass.proofs.Tables.{row_none, row_more, rows_none, rows_more, one-pixel}
+use Rattle.still_pass.proofs.Tables.{row_none, row_more, rows_none, rows_more, one_pixel}
 use Rattle.still_corner.specs.declared.Column.{Column}
 use Rattle.still_corner.specs.Corner.{full_by, still_by, both_bits, column_of, mark_of, is_odd, Holds, RowMarked, RowsMarked, ColumnIn}
 
@@ -44,7 +44,7 @@ module _ (same : (x y : ℕ) → Bool) (size : ℕ × ℕ) (x y : ℕ) (left : x
 
       go : (i j : ℕ) → i < size.0 → j < size.1 → (t : Bool) → (t ≡ true → j * size.0 + i ≡ y * size.0 + x) → (t ≡ false → j * size.0 + i ≡ y * size.0 + x → ⊥)
           → is_odd (set list (y * size.0 + x) (both_bits same size x y)) size.0 i j ≡ same i j
-      go i j p q true f g = let e = one-pixel size.0 i j x y p left (f refl) in rw (e.0, e.1) here
+      go i j p q true f g = let e = one_pixel size.0 i j x y p left (f refl) in rw (e.0, e.1) here
       go i j p q false f g = rw (get_or-set_other list (y * size.0 + x) (j * size.0 + i) (both_bits same size x y) 0 (g refl)) (h.odd i j p q)
 
   pub row_marked : (before list : List ℕ) (v : ℕ) → RowMarked same size y x before list → y * size.0 + x < length list → v ≡ both_bits same size x y

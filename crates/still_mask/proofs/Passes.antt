@@ -16,7 +16,7 @@ use Rattle.still_pass.specs.Pass.{PlaneIn}
 use Rattle.still_pass.specs.Table.{RowsStored}
 use Rattle.laws.proofs.Accepted.{row_right, sizes_in}
 use Rattle.still_pass.proofs.Accepted.{first_in}
-use Rattle.laws.proofs.Lists.{length-tabulate, get_d_tabulate, is_table}
+use Rattle.laws.proofs.Lists.{length-tabulate, get_or-tabulate, is_table}
 use Rattle.still_pass.proofs.Tables.{table, table_length, table_at}
 use Rattle.still_same.specs.Same.{same_bit}
 use Rattle.still_corner.specs.Corner.{full_by, still_by, both_bits, Holds, RowsMarked}
@@ -70,8 +70,8 @@ module _ (first second : Plane) (width height : ℕ) (s : Settings) where
       let e = table width bits height before after marked.stored long in
       is_table (width * height) (λ k. still first second (width, height) s (k % width) (k / width)) last 0
       (rw halved (length-tabulate (length after) (λ k. get_or after k 0 / 2) ∙ whole))
-      (λ k h. rw (halved, get_d_tabulate (length after) (λ j. get_or after j 0 / 2) k 0 (rw whole h))
-      (rw (e, get_d_tabulate (width * height) (λ j. bits (j % width) (j / width)) k 0 h, half_both (same (k % width) (k / width)) (still_by same (width, height) (k % width) (k / width)))
+      (λ k h. rw (halved, get_or-tabulate (length after) (λ j. get_or after j 0 / 2) k 0 (rw whole h))
+      (rw (e, get_or-tabulate (width * height) (λ j. bits (j % width) (j / width)) k 0 h, half_both (same (k % width) (k / width)) (still_by same (width, height) (k % width) (k / width)))
       (answer_is (k % width) (k / width))))
 
   -- where it is not refused, they can be run

@@ -8,9 +8,9 @@ use native.Mathlib.Omega.{arith}
 use lib.Arith.{digits_lt, digits_div, digits_mod}
 use lib.ListN.{length, get_or, set}
 use Rattle.rules.specs.Forms.{turns, scan_row, scan, tabulate}
-use Rattle.laws.proofs.Lists.{length-tabulate, get_d_tabulate}
+use Rattle.laws.proofs.Lists.{length-tabulate, get_or-tabulate}
 use Rattle.laws.specs.Filled.{filled}
-use Rattle.laws.proofs.Filled.{filled-all}
+use Rattle.laws.proofs.Filled.{filled_all}
 use Rattle.still_pass.specs.Table.{store, RowStored, RowsStored}
 
 -- ---- a pass, entry by entry and row by row
@@ -35,8 +35,8 @@ unfolding turns scan
 rows_more done row = record { list = simp (row.list, done.list, add-one) }
 
 -- two pixels with one place are one pixel
-pub one-pixel : (width x y i j : ℕ) → x < width → i < width → y * width + x ≡ j * width + i → (x ≡ i) × (y ≡ j)
-one-pixel width x y i j p q e =
+pub one_pixel : (width x y i j : ℕ) → x < width → i < width → y * width + x ≡ j * width + i → (x ≡ i) × (y ≡ j)
+one_pixel width x y i j p q e =
     (sym (digits_mod y p) ∙ ap (λ (k : ℕ). k % width) e ∙ digits_mod j q, sym (digits_div y p) ∙ ap (λ (k : ℕ). k / width) e ∙ digits_div j q)
 
 -- ---- the table
@@ -64,7 +64,7 @@ module _ {A : Type 0} (width : ℕ) (entry : (x y : ℕ) → A) where
 
     -- the law: what is left is the table
     pub table : after ≡ tabulate (width * height) flat
-    table = stored ∙ filled-all flat before (flat 0) (width * height) long
+    table = stored ∙ filled_all flat before (flat 0) (width * height) long
 
     pub table_length : length after ≡ width * height
     table_length = rw table (length-tabulate (width * height) flat)
@@ -72,4 +72,4 @@ module _ {A : Type 0} (width : ℕ) (entry : (x y : ℕ) → A) where
     -- and its entry at a pixel
     pub table_at : (x y : ℕ) (d : A) → x < width → y < height → get_or after (y * width + x) d ≡ entry x y
     table_at x y d inside below =
-        rw (table, get_d_tabulate (width * height) flat (y * width + x) d (omega (arith, digits_lt below inside, mul_comm height width)), digits_mod y inside, digits_div y inside)
+        rw (table, get_or-tabulate (width * height) flat (y * width + x) d (omega (arith, digits_lt below inside, mul_comm height width)), digits_mod y inside, digits_div y inside)

@@ -64,7 +64,7 @@ pub paired_more : {f : ℕ → ℤ} {half lo k : ℕ} {before now after : List �
     → after ≡ set (set now k (f k)) (half + k) (f (half + k)) → Paired f half lo (k + 1) before after
 paired_more {f} {half} {lo} {k} {before} {now} {after} done inside e =
     rw e (record {
-      first = λ j low high. ⊎_elim (λ q. rw q (second-still k (there f now k near))) (λ b. kept j (done.first j low b)) (last j k (omega arith));
+      first = λ j low high. ⊎_elim (λ q. rw q (second_still k (there f now k near))) (λ b. kept j (done.first j low b)) (last j k (omega arith));
       second = λ j low high. ⊎_elim (λ q. rw q (there f middle (half + k) far)) (λ b. kept (half + j) (done.second j low b)) (last j k (omega arith));
       kept = λ j q. kept j (done.kept j q);
     })
@@ -78,11 +78,11 @@ paired_more {f} {half} {lo} {k} {before} {now} {after} done inside e =
     far : half + k < length middle
     far = rw (length-set now k (f k)) inside
 
-    second-still : (j : ℕ) → entry_of middle j ≡ f j → entry_of (set middle (half + k) (f (half + k))) j ≡ f j
-    second-still = still f middle (half + k) far
+    second_still : (j : ℕ) → entry_of middle j ≡ f j → entry_of (set middle (half + k) (f (half + k))) j ≡ f j
+    second_still = still f middle (half + k) far
 
     kept : (j : ℕ) → entry_of now j ≡ f j → entry_of (set middle (half + k) (f (half + k))) j ≡ f j
-    kept j q = second-still j (still f now k near j q)
+    kept j q = second_still j (still f now k near j q)
 
 -- a run of entries more
 pub paired_join : {f : ℕ → ℤ} {half lo mid hi : ℕ} {before now after : List ℤ} → Paired f half lo mid before now → Paired f half mid hi now after

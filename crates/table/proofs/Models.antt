@@ -9,11 +9,11 @@ use lib.Ieee.{Float, nan}
 use Rattle.rules.specs.Model.{unfitted}
 use Rattle.rules.specs.Assembly.{model_slice}
 use Rattle.table.specs.Models.{model_at, model_put}
-use Rattle.laws.proofs.Lists.{get_d_tabulate}
+use Rattle.laws.proofs.Lists.{get_or-tabulate}
 
-pub model-at : (s : List Float) (pixels at : ℕ) → at < pixels → get_or (model_slice s pixels) at unfitted ≡ model_at s at
+pub model_at_lem : (s : List Float) (pixels at : ℕ) → at < pixels → get_or (model_slice s pixels) at unfitted ≡ model_at s at
 unfolding model_slice
-model-at s pixels at inside = get_d_tabulate pixels (model_at s) at unfitted inside
+model_at_lem s pixels at inside = get_or-tabulate pixels (model_at s) at unfitted inside
 
 -- ---- a pixel is put
 

@@ -94,9 +94,9 @@ module _ (w : Walk) (slots : List Slot) (three : length slots ≡ 3) (e : are_sl
       right false = refl
   beside false c = refl
 
-  beside-not : (none : Bool) (c : ℕ) → is_neighbour (cond none absent (part_in w slots c)) (walk_size w) w.ratio ≡ true
-  beside-not true c = beside false c
-  beside-not false c = beside true c
+  beside_not : (none : Bool) (c : ℕ) → is_neighbour (cond none absent (part_in w slots c)) (walk_size w) w.ratio ≡ true
+  beside_not true c = beside false c
+  beside_not false c = beside true c
 
 -- no part has more than 12 pairs
 few : (t : Bool) (p q : Part) → leb p.pairs 12 ≡ true → leb q.pairs 12 ≡ true → leb (cond t p q).pairs 12 ≡ true
@@ -121,7 +121,7 @@ fit_right c three e =
     rw (
       ok 0 (are_sizes (walk_size w)) refl,
       ok 1 (is_ratio w.ratio (walk_size w)) refl,
-      beside-not w c.slots three lengths (eqb w.taken 0) (w.taken - 1),
+      beside_not w c.slots three lengths (eqb w.taken 0) (w.taken - 1),
       slot_long w c.slots three lengths w.taken,
       beside w c.slots three lengths (ltb (w.taken + 1) (chunks w.pairs)) (w.taken + 1),
       ok 3 (are_models c.models (walk_size w)) refl,

@@ -31,13 +31,13 @@ module _ (c : FitCall) (p q : Parts)
     (refusal : fit_refusal (of c p) ≡ fit_refusal (of c q))
     (found : (at : ℕ) (limit evidence : Float) (strict : Bool) → window p at limit evidence strict ≡ window q at limit evidence strict)
     (fits : (spot : ℕ) (f : Found) → fitted p spot f ≡ fitted q spot f) where
-  same-rough : rough (of c p) ≡ rough (of c q)
+  same_rough : rough (of c p) ≡ rough (of c q)
   unfolding rough
-  same-rough = table_same (area c.size) _ _ (λ at h. rw (found at _ c.evidence c.strict) (fits _ _))
+  same_rough = table_same (area c.size) _ _ (λ at h. rw (found at _ c.evidence c.strict) (fits _ _))
 
   by_rough : Alike (of c p) (of c q)
   unfolding fit_leaves fit_models fit_cover
-  by_rough = record { refusal = refusal; layer = rw (refusal, same-rough) }
+  by_rough = record { refusal = refusal; layer = rw (refusal, same_rough) }
 
 -- an absent previous part
 pub previous_unseen : (c : FitCall) (s s' : Slot) (own next : Part) → Alike (of c (parts_of (part s 0) own next)) (of c (parts_of (part s' 0) own next))

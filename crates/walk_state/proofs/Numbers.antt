@@ -14,7 +14,7 @@ use Rattle.rules.specs.Domain.{are_slots}
 use Rattle.rules.specs.Walk.{chunks, is_ready, is_due, is_left, walk_size}
 use Rattle.calls.specs.Lent.{slots_of}
 use Rattle.laws.proofs.Accepted.{both}
-use Rattle.plane.proofs.Laws.{leb-same}
+use Rattle.plane.proofs.Laws.{leb_same}
 use Rattle.walk_state.specs.Counts.{Counts, are_long}
 
 -- a test that is made true by another
@@ -50,17 +50,17 @@ partial pairs added below c =
 
 -- none before two chunks are
 pub early : (pairs added : ℕ) → added < pairs → added < 24 → Counts pairs added 0
-early pairs added below few c = partial pairs added below c ∙ leb-same (12 * (c + 1 + 1)) added (suc c) 0 (λ h. omega arith) (λ h. omega arith)
+early pairs added below few c = partial pairs added below c ∙ leb_same (12 * (c + 1 + 1)) added (suc c) 0 (λ h. omega arith) (λ h. omega arith)
 
 pub later : (pairs added : ℕ) → added < pairs → 24 ≤ added → Counts pairs added (added / 12 - 1)
-later pairs added below many c = partial pairs added below c ∙ leb-same (12 * (c + 1 + 1)) added (suc c) (added / 12 - 1) (λ h. omega arith) (λ h. omega arith)
+later pairs added below many c = partial pairs added below c ∙ leb_same (12 * (c + 1 + 1)) added (suc c) (added / 12 - 1) (λ h. omega arith) (λ h. omega arith)
 
 -- ---- the tests of a walk
 
 -- the last layer taken was ready
 some : (taken most : ℕ) → (eqb taken 0 || ltb (taken - 1) most) ≡ leb taken most
 some zero most = sym (le-leb 0 most (omega arith))
-some (suc n) most = rw (ne_eqb (suc n) 0 (λ e. omega arith)) (leb-same (suc (suc n - 1)) most (suc n) most (λ h. omega arith) (λ h. omega arith))
+some (suc n) most = rw (ne_eqb (suc n) 0 (λ e. omega arith)) (leb_same (suc (suc n - 1)) most (suc n) most (λ h. omega arith) (λ h. omega arith))
 
 -- the next one was not
 none : (taken least : ℕ) → not (ltb taken least) ≡ leb least taken

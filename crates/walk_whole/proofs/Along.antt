@@ -17,7 +17,7 @@ use Rattle.rules.specs.Walk.{pairs_in, slot, walk_size, moved, pair_stats, walk_
 use Rattle.calls.specs.Lent.{walk_pair_call}
 use Rattle.walk_whole.specs.Calls.{Stand, Asked, Call, pair_call, layer_call, taken, after, after_all, given, clip, one, layers}
 use Rattle.walk_whole.specs.Whole.{whole_part}
-use Rattle.walk_whole.proofs.Chunks.{afresh, part_last, part-before, part_none}
+use Rattle.walk_whole.proofs.Chunks.{afresh, part_last, part_before, part_none}
 
 -- so many pairs are in the chunk of the next one, and then one more
 next_pairs : (n : ℕ) → pairs_in (n + 1) (n / 12) ≡ suc (pairs_in n (n / 12))
@@ -87,7 +87,7 @@ module _ (w : Walk) where
             (λ e. rw (e, more, next_pairs long) (set_own ∙ summed_own))
             (λ f. let done : 12 * (c + 1) ≤ long = omega (arith, f) in
             let same : pairs_in (long + 1) c ≡ pairs_in long c = omega (arith, done) in
-            rw (more, same, set_other c (λ e. omega (arith, e, f, b', done)), part-before (walk_size w) w.ratio xs (p ∷ []) c done)
+            rw (more, same, set_other c (λ e. omega (arith, e, f, b', done)), part_before (walk_size w) w.ratio xs (p ∷ []) c done)
             (h.sums c (omega arith) (omega (arith, b'))))
 
 -- ---- along a walk: w at its start, that was handed the pairs xs and gave n layers

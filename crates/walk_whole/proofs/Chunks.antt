@@ -17,8 +17,8 @@ none [] e = refl
 none (x ∷ xs) e = absurd (omega (arith, e))
 
 -- a chunk that is complete stays as it is
-pub chunk-before : (xs ys : List Pair) (c : ℕ) → 12 * (c + 1) ≤ length xs → chunk (xs ++ ys) c ≡ chunk xs c
-chunk-before xs ys c h =
+pub chunk_before : (xs ys : List Pair) (c : ℕ) → 12 * (c + 1) ≤ length xs → chunk (xs ++ ys) c ≡ chunk xs c
+chunk_before xs ys c h =
     rw (drop-append-le (12 * c) xs ys (omega (arith, h)))
     (take-append-le 12 (drop (12 * c) xs) ys (rw (length-drop (12 * c) xs) (omega (arith, h))))
 
@@ -60,9 +60,9 @@ module _ (size : ℕ × ℕ) (ratio : ℕ) where
   part_last xs p c h k = rw (chunk_last xs p c h k) (summed_last (chunk xs c) p absent)
 
   -- and one that stays
-  pub part-before : (xs ys : List Pair) (c : ℕ) → 12 * (c + 1) ≤ length xs → whole_part size ratio (xs ++ ys) c ≡ whole_part size ratio xs c
+  pub part_before : (xs ys : List Pair) (c : ℕ) → 12 * (c + 1) ≤ length xs → whole_part size ratio (xs ++ ys) c ≡ whole_part size ratio xs c
   unfolding whole_part
-  part-before xs ys c h = rw (chunk-before xs ys c h)
+  part_before xs ys c h = rw (chunk_before xs ys c h)
 
   pub part_none : (xs : List Pair) (c : ℕ) → length xs ≤ 12 * c → whole_part size ratio xs c ≡ absent
   unfolding whole_part summed

@@ -39,8 +39,8 @@ pub record Fine (s : Stand) : Type 0 where
 one_back : (n : ℕ) → n + 1 - 1 ≡ n
 one_back n = omega arith
 
-left-pair : (w : Walk) → Left w → w.added < w.pairs → is_due w ≡ false → Left (moved w (w.added + 1) w.taken)
-left-pair w l more idle = record { inside = omega (arith, more); last = last l.last; next = inr next }
+left_pair : (w : Walk) → Left w → w.added < w.pairs → is_due w ≡ false → Left (moved w (w.added + 1) w.taken)
+left_pair w l more idle = record { inside = omega (arith, more); last = last l.last; next = inr next }
   where
     last : (w.taken ≡ 0) ⊎ Ready w.pairs w.added (w.taken - 1) → (w.taken ≡ 0) ⊎ Ready w.pairs (w.added + 1) (w.taken - 1)
     last (inl z) = inl z
@@ -99,7 +99,7 @@ fine_pair s number p f e =
       ratio = f.ratio;
       three = length-set s.slots (chunk_of s.walk.added % 3) _ ∙ f.three;
       lengths = each_set _ s.slots (chunk_of s.walk.added % 3) _ f.lengths (summed_long (handed s number p));
-      left = left-pair s.walk f.left t.more t.none;
+      left = left_pair s.walk f.left t.more t.none;
     }
 
 fine_layer : (s : Stand) (asked : Asked) → Fine s → walk_layer_refusal (taken s asked) ≡ 0
@@ -134,8 +134,8 @@ fine_all s (c ∷ rest) f = fine_all (after s c) rest (fine_call s c f)
 -- ---- so it can go on
 
 -- where the clip is complete and no layer is due, all were taken
-all-taken : (w : Walk) → Left w → is_due w ≡ false → w.added ≡ w.pairs → w.taken ≡ chunks w.pairs
-all-taken w l idle e = go (leb (chunks w.pairs) w.taken) (leb-true _ _) (leb-false _ _)
+all_taken : (w : Walk) → Left w → is_due w ≡ false → w.added ≡ w.pairs → w.taken ≡ chunks w.pairs
+all_taken w l idle e = go (leb (chunks w.pairs) w.taken) (leb-true _ _) (leb-false _ _)
   where
     most : (w.taken ≡ 0) ⊎ Ready w.pairs w.added (w.taken - 1) → w.taken ≤ chunks w.pairs
     most (inl z) = omega (arith, z)
@@ -176,7 +176,7 @@ module _ (s : Stand) (f : Fine s) where
       )
 
   goes_on : GoesOn s
-  goes_on = record { left = left_out s.walk f.left; pair = takes_pair; layer = gives_layer; done = all-taken s.walk f.left }
+  goes_on = record { left = left_out s.walk f.left; pair = takes_pair; layer = gives_layer; done = all_taken s.walk f.left }
 
 pub each_goes_on : EachGoesOn
 unfolding walk_start_refusal

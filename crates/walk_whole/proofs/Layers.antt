@@ -20,7 +20,7 @@ use Rattle.walk_laws.proofs.Due.{Due}
 use Rattle.walk_laws.proofs.Accepted.{turn, due, fit_right}
 use Rattle.walk_whole.specs.Calls.{Stand, Asked, Call, pair_call, layer_call, taken, after, after_all, given, clip, layers}
 use Rattle.walk_whole.specs.Whole.{whole_part, whole_fit, Same, EachLayer}
-use Rattle.walk_whole.proofs.Chunks.{part-before}
+use Rattle.walk_whole.proofs.Chunks.{part_before}
 use Rattle.walk_whole.proofs.Along.{Holds, Along, along_all}
 
 -- ---- a clip that is complete gets no pair more
@@ -68,18 +68,18 @@ module _ (w : Walk) (xs ys : List Pair) (n : ℕ) (slots : List Slot) (h : Holds
     stays c k = go d.complete
       where
         go : (12 * (n + 2) ≤ length xs) ⊎ (length xs ≡ w.pairs) → whole c ≡ whole_part (walk_size w) w.ratio xs c
-        go (inl l) = part-before (walk_size w) w.ratio xs ys c (omega (arith, l, k))
+        go (inl l) = part_before (walk_size w) w.ratio xs ys c (omega (arith, l, k))
         go (inr e) = rw (behind e, append-nil xs)
 
-    same-part : (c : ℕ) → 12 * c < length xs → n ≤ c + 1 → c ≤ n + 1 → part_in at slots c ≡ whole c
-    same-part c a b k = h.sums c a (omega (arith, d.few, b)) ∙ sym (stays c k)
+    same_part : (c : ℕ) → 12 * c < length xs → n ≤ c + 1 → c ≤ n + 1 → part_in at slots c ≡ whole c
+    same_part c a b k = h.sums c a (omega (arith, d.few, b)) ∙ sym (stays c k)
 
     previous : cond (eqb n 0) absent (part_in at slots (n - 1)) ≡ cond (eqb n 0) absent (whole (n - 1))
     previous = go (eqb n 0)
       where
         go : (t : Bool) → cond t absent (part_in at slots (n - 1)) ≡ cond t absent (whole (n - 1))
         go true = refl
-        go false = same-part (n - 1) (omega (arith, d.begun)) (omega arith) (omega arith)
+        go false = same_part (n - 1) (omega (arith, d.begun)) (omega arith) (omega arith)
 
     next : cond (ltb (n + 1) (chunks w.pairs)) (part_in at slots (n + 1)) absent ≡ cond (ltb (n + 1) (chunks w.pairs)) (whole (n + 1)) absent
     next = go (ltb (n + 1) (chunks w.pairs)) (ltb-true (n + 1) (chunks w.pairs))
@@ -89,12 +89,12 @@ module _ (w : Walk) (xs ys : List Pair) (n : ℕ) (slots : List Slot) (h : Holds
         begun k (inr e) = omega (arith, e, k)
 
         go : (t : Bool) → (t ≡ true → n + 1 < chunks w.pairs) → cond t (part_in at slots (n + 1)) absent ≡ cond t (whole (n + 1)) absent
-        go true f = same-part (n + 1) (begun (f refl) d.complete) (omega arith) (omega arith)
+        go true f = same_part (n + 1) (begun (f refl) d.complete) (omega arith) (omega arith)
         go false f = refl
 
     same_parts : around (part_in at slots) (chunks w.pairs) n ≡ around whole (chunks w.pairs) n
     unfolding around
-    same_parts = rw (previous, same-part n d.begun (omega arith) (omega arith), next)
+    same_parts = rw (previous, same_part n d.begun (omega arith) (omega arith), next)
 
   same : (asked : Asked) → let c = taken (record { walk = at; slots = slots }) asked in walk_layer_refusal c ≡ 0
       → Same c (whole_fit (walk_size w) w.ratio (xs ++ ys) (chunks w.pairs) n asked)

@@ -112,8 +112,8 @@ one_less : (n : ℕ) → suc n - 1 ≡ n
 one_less n = omega arith
 
 -- a layer that is not ready was not ready a pair earlier
-not-before : (pairs added c : ℕ) → added < pairs → (Ready pairs added c → ⊥) → Ready pairs (added - 1) c → ⊥
-not-before pairs added c more f r = f (record { exists = r.exists; complete = later r.complete })
+not_before : (pairs added c : ℕ) → added < pairs → (Ready pairs added c → ⊥) → Ready pairs (added - 1) c → ⊥
+not_before pairs added c more f r = f (record { exists = r.exists; complete = later r.complete })
   where
     later : (12 * (c + 2) ≤ added - 1) ⊎ (added - 1 ≡ pairs) → (12 * (c + 2) ≤ added) ⊎ (added ≡ pairs)
     later (inl h) = inl (omega (arith, h))
@@ -155,9 +155,9 @@ module _ (w : Walk) (slots : List Slot) (e : walk_start_refusal (walk_size w) w.
   abbrev At : (added layers : ℕ) → Type 0
   At added layers = Reached (moved w added layers) slots
 
-  at-start : At 0 0
+  at_start : At 0 0
   unfolding after_all
-  at-start = record { calls = []; comes = rw e }
+  at_start = record { calls = []; comes = rw e }
 
   -- one call more
   further : (a n a' n' : ℕ) (c : Call)
@@ -194,7 +194,7 @@ module _ (w : Walk) (slots : List Slot) (e : walk_start_refusal (walk_size w) w.
   by_pair : (a n : ℕ) → Left (moved w (suc a) n) → (n ≡ 0) ⊎ Ready w.pairs a (n - 1) → (Left (moved w a n) → At a n) → At (suc a) n
   by_pair a n l last before =
       let idle = was_idle w.pairs a n l.next in
-      let left : Left (moved w a n) = record { inside = omega (arith, l.inside); last = last; next = inr (not-before w.pairs a n l.inside idle) } in
+      let left : Left (moved w a n) = record { inside = omega (arith, l.inside); last = last; next = inr (not_before w.pairs a n l.inside idle) } in
       rw (← add-one a) (pair_more a n (not_ready w.pairs a n idle) l.inside (before left))
 
   -- the last call was a layer: one layer less is such a walk too, and that layer is due there
@@ -214,7 +214,7 @@ module _ (w : Walk) (slots : List Slot) (e : walk_start_refusal (walk_size w) w.
       go false f g again = by_layer (suc a) n l (λ r. false≢true (g (rw (one_less a) at r))) again
 
   with_pairs : (a n : ℕ) → Left (moved w a n) → At a n
-  with_pairs zero n l = rw (none_yet w.pairs n l.last) at-start
+  with_pairs zero n l = rw (none_yet w.pairs n l.last) at_start
   with_pairs (suc a) n l = with_pair a (λ m h. with_pairs a m h) n l
 
 -- ---- the claims

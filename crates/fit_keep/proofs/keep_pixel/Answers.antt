@@ -2,7 +2,7 @@
 use Prim.Native.Nat.{◌+◌, ◌*◌, ◌/◌}
 use mathlib.Core.Path.{◌≡◌, ◌∙◌}
 use Rattle.rules.specs.Forms.{cells}
-use Rattle.fit_keep.proofs.Steps.{step_none, step-some, cell_is}
+use Rattle.fit_keep.proofs.Steps.{step_none, step_some, cell_is}
 use Rattle.fit_keep.proofs.keep_pixel.Goals as goal
 
 pub returns-then-kept-at-eq0 : goal.returns-then-kept-at-eq0
@@ -13,4 +13,4 @@ returns c =
     let a = c.args in
     let here : c.place-cell.result ≡ a.y / 8 * cells a.width + a.x / 8 = c.place-cell.ensures ∙ rw (c.cell_of-2.ensures, c.cells.ensures, c.cell_of.ensures) in
     let some = rw c.place-at.ensures at c.if-kept-at-eq0.false in
-    c.mark.ensures ∙ rw (c.verdict_at-verdict.ensures, here, ← cell_is a.width a.x a.y c.requires.1, c.place-at.ensures) (step-some _ _ _ _ some)
+    c.mark.ensures ∙ rw (c.verdict_at-verdict.ensures, here, ← cell_is a.width a.x a.y c.requires.1, c.place-at.ensures) (step_some _ _ _ _ some)

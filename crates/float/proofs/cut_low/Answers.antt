@@ -5,12 +5,12 @@ use Rattle.float.proofs.cut_low.Goals as goal
 
 pub float_to_int-n : goal.float_to_int-n
 unfolding of_bits
-float_to_int-n c = (number _ _ (floored c.args.x c.requires.fact_1 c.requires.fact_2)).0
+float_to_int-n c = (number _ _ (floored c.args.x c.requires.unsigned c.requires.low)).0
 
 pub overflow_sub-result : goal.overflow_sub-result
 unfolding of_bits
-overflow_sub-result c = rw c.bit.ensures (taken _ _ (floored c.args.x c.requires.fact_1 c.requires.fact_2)).0
+overflow_sub-result c = rw c.bit.ensures (taken _ _ (floored c.args.x c.requires.unsigned c.requires.low)).0
 
 pub returns : goal.returns
 unfolding of_bits
-returns c = rw c.bit.ensures (taken _ _ (floored c.args.x c.requires.fact_1 c.requires.fact_2)).1
+returns c = rw c.bit.ensures (taken _ _ (floored c.args.x c.requires.unsigned c.requires.low)).1

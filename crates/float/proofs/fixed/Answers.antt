@@ -58,7 +58,7 @@ pub nearest-requires : goal.nearest-requires
 unfolding of_bits
 nearest-requires c =
     let p = asked (Y c.args.value c.args.scale) c.if-y.true c.if-y-2.true in
-    record { fact_1 = p.0; fact_2 = p.1 }
+    record { above = p.0; low = p.1 }
 
 pub overflow_cast-result : goal.overflow_cast-result
 unfolding of_bits
@@ -71,7 +71,7 @@ unfolding of_bits neg
 nearest-requires-then-y-4 c =
     let y = Y c.args.value c.args.scale in
     let p = asked (neg y) (flip_origin y c.if-y-3.true) (sym (flip_end 32767 y) ∙ c.if-y-4.true) in
-    record { fact_1 = p.0; fact_2 = p.1 }
+    record { above = p.0; low = p.1 }
 
 pub overflow_cast-result-then-y-4 : goal.overflow_cast-result-then-y-4
 unfolding of_bits neg

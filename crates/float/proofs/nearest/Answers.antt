@@ -9,14 +9,14 @@ use Rattle.float.proofs.nearest.Goals as goal
 
 pub cut_low-requires : goal.cut_low-requires
 cut_low-requires c = record {
-  fact_1 = (halved c.args.x (subst T (sym c.well_formed.0.1) tt) c.requires.fact_1 c.requires.fact_2).sign;
-  fact_2 = (halved c.args.x (subst T (sym c.well_formed.0.1) tt) c.requires.fact_1 c.requires.fact_2).under;
+  unsigned = (halved c.args.x (subst T (sym c.well_formed.0.1) tt) c.requires.above c.requires.low).sign;
+  low = (halved c.args.x (subst T (sym c.well_formed.0.1) tt) c.requires.above c.requires.low).under;
 }
 
 pub overflow_add-result : goal.overflow_add-result
 overflow_add-result c =
-    let small = (halved c.args.x (subst T (sym c.well_formed.0.1) tt) c.requires.fact_1 c.requires.fact_2).small in
+    let small = (halved c.args.x (subst T (sym c.well_formed.0.1) tt) c.requires.above c.requires.low).small in
     omega (arith, c.cut_low.ensures)
 
 pub returns : goal.returns
-returns c = ap (λ (z : ℕ). (z + 1) / 2) c.cut_low.ensures ∙ (halved c.args.x (subst T (sym c.well_formed.0.1) tt) c.requires.fact_1 c.requires.fact_2).is
+returns c = ap (λ (z : ℕ). (z + 1) / 2) c.cut_low.ensures ∙ (halved c.args.x (subst T (sym c.well_formed.0.1) tt) c.requires.above c.requires.low).is

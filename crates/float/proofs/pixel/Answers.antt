@@ -7,7 +7,7 @@ use lib.Ieee.{fin, of_bits, lt}
 use Rattle.rules.specs.Float.{pixel as pixel_of}
 use Rattle.laws.proofs.Value.{T_of}
 use Rattle.laws.proofs.Order.{lt_trans_float}
-use Rattle.float.proofs.Held.{inside, past, not-above}
+use Rattle.float.proofs.Held.{inside, past, not_above}
 use Rattle.float.proofs.pixel.Goals as goal
 
 pub nearest-requires : goal.nearest-requires
@@ -15,8 +15,8 @@ unfolding of_bits
 nearest-requires c =
     let x = c.args.x in
     record {
-      fact_1 = T_of (lt (fin false 0 (pos 0)) x) c.if-x.true;
-      fact_2 = lt_trans_float x (fin false 255 (pos 0)) (fin false 1 (pos 16)) (T_of (lt x (fin false 255 (pos 0))) c.if-x-2.true) (unfold lt in tt);
+      above = T_of (lt (fin false 0 (pos 0)) x) c.if-x.true;
+      low = lt_trans_float x (fin false 255 (pos 0)) (fin false 1 (pos 16)) (T_of (lt x (fin false 255 (pos 0))) c.if-x-2.true) (unfold lt in tt);
     }
 
 pub overflow_cast-result : goal.overflow_cast-result
@@ -37,4 +37,4 @@ returns-else-x-2 c =
 
 pub returns-else-x : goal.returns-else-x
 unfolding of_bits pixel_of
-returns-else-x c = sym (not-above 255 c.args.x c.if-x.false)
+returns-else-x c = sym (not_above 255 c.args.x c.if-x.false)

@@ -1,6 +1,6 @@
 -- A number of a slice in either form: two bytes of it joined, or the number itself.
 use Rattle.std.proofs.Common.{sym, ◌∙◌, arith}
-use Rattle.layer_lent.proofs.Numbers.{length-numbers, get_d_numbers}
+use Rattle.layer_lent.proofs.Numbers.{length-numbers, get_or-numbers}
 use Rattle.layer_lent.proofs.Signed.{back}
 use mir.Syntax.{w16}
 use Rattle.layer_lent.proofs.entry.Goals as goal
@@ -34,4 +34,4 @@ pub returns-then-packed : goal.returns-then-packed
 returns-then-packed c =
     let a = c.args in
     let h = rw (length-numbers a.bytes.now) at (simp c.if-packed.true at c.requires) in
-    back w16 c.joined.result c.joined.type_inv ∙ c.joined.ensures ∙ sym (simp c.if-packed.true (get_d_numbers a.bytes.now a.k h))
+    back w16 c.joined.result c.joined.type_inv ∙ c.joined.ensures ∙ sym (simp c.if-packed.true (get_or-numbers a.bytes.now a.k h))

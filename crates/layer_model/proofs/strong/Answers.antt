@@ -7,7 +7,7 @@ use mir.Val.{to_z, of_z}
 use Rattle.layer_lent.proofs.Signed.{back}
 use Rattle.layer_numbers.proofs.Texels.{nought}
 use Rattle.layer_model.specs.Least.{least_of}
-use Rattle.layer_model.proofs.Fifth.{fifth_test, at_least, at_most, some-least, minus_fits}
+use Rattle.layer_model.proofs.Fifth.{fifth_test, at_least, at_most, some_least, minus_fits}
 use Rattle.layer_model.proofs.strong.Goals as goal
 
 pub overflow_sub-result : goal.overflow_sub-result
@@ -33,5 +33,5 @@ returns-else-least-total c =
     let shown : le_z (to_z w32 (of_z w32 a.total)) (to_z w32 (of_z w32 (pos 0 +ℤ neg_ℤ (to_z w32 (of_z w32 c.least-least.result))))) ≡ le_z a.total (neg_ℤ least) =
         rw (is, total, nought (neg_ℤ least), back w32 (neg_ℤ least) (minus_fits a.span).sfits) in
     shown
-    ∙ at_most (least_of a.span) a.total (some-least a.span) t
+    ∙ at_most (least_of a.span) a.total (some_least a.span) t
     ∙ sym (fifth_test a.total c.requires.0 a.span c.requires.1 c.requires.2 c.requires.3)

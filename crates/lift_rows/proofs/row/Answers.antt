@@ -3,7 +3,7 @@ use mathlib.Core.Path.{refl, ◌∙◌}
 use native.Mathlib.Nat.{le_antisymm}
 use native.Mathlib.Omega.{arith}
 use Rattle.plane.proofs.Laws.{row_none}
-use Rattle.lift_rows.proofs.Cells.{run_skip, far-all, onward}
+use Rattle.lift_rows.proofs.Cells.{run_skip, far_all, onward}
 use Rattle.lift_rows.proofs.row.Goals as goal
 
 pub loop-x-init : goal.loop-x-init
@@ -47,7 +47,7 @@ loop-x-preserved c =
     let far = c.cells_end-from.ensures in
     let a = c.args in
     let skip = run_skip _ _ _ at-loop.x c.cells_end-from.result _ _ far.ahead
-    (far-all a.plan c.requires.0.sound.planned _ a.y a.numbers a.bytes a.frames a.work _ _ refl far.alike) in
+    (far_all a.plan c.requires.0.sound.planned _ a.y a.numbers a.bytes a.frames a.work _ _ refl far.alike) in
     (c.near_run-counted.ensures.on _ _ (skip.on _ _ at-loop.invariant.0), c.cells_end-to.ensures.within, c.near_run-counted.auto.output ∙ at-loop.invariant.2)
 
 pub returns : goal.returns

@@ -1,7 +1,7 @@
 -- What is left of `parcel_write::put_chroma`: the cells lie within their slice, and the three records are put.
 use Rattle.std.proofs.Common.{◌∙◌, arith}
 use Rattle.parcel_write.proofs.Fits.{cells_fit}
-use Rattle.parcel_write.proofs.Layers.{chroma-put}
+use Rattle.parcel_write.proofs.Layers.{chroma_put}
 use Rattle.parcel_write.proofs.put_chroma.Goals as goal
 
 pub put_record-requires : goal.put_record-requires
@@ -18,5 +18,5 @@ pub returns : goal.returns
 returns c =
     let one = c.put_record-after.ensures in
     let two = c.put_record-after-2.ensures in
-    chroma-put c.args.shape c.args.numbers _ _ _ _ c.divided.ensures c.divided-rows.ensures c.cells.ensures c.cells-2.ensures _ _
+    chroma_put c.args.shape c.args.numbers _ _ _ _ c.divided.ensures c.divided-rows.ensures c.cells.ensures c.cells-2.ensures _ _
     one.1 one.0 two.1 two.0 c.put_record.ensures.1

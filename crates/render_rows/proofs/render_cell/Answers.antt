@@ -3,7 +3,7 @@ use native.Mathlib.Omega.{arith}
 use mir.Syntax.{w16}
 use Rattle.layer_lent.proofs.Signed.{back}
 use Rattle.lift_rows.proofs.Cells.{run_skip}
-use Rattle.render_rows.proofs.Changes.{far-cell, cell-one}
+use Rattle.render_rows.proofs.Changes.{far_cell, cell_one}
 use Rattle.render_rows.proofs.render_cell.Goals as goal
 
 pub render_run-requires : goal.render_run-requires
@@ -15,7 +15,7 @@ render_run-requires c =
       c.requires.1,
       c.requires.2,
       rw e (record {
-        one = cell-one _ h _ _ _ _ _ _ d c.requires.3 c.distance-distance.ensures;
+        one = cell_one _ h _ _ _ _ _ _ d c.requires.3 c.distance-distance.ensures;
         near = rw (c.within.ensures, c.gap.ensures, e) at c.if-within.true;
       }),
     )
@@ -26,9 +26,9 @@ returns-else-within c =
     let h = c.requires.0.framed.first_ready.lies.sound.planned in
     let far = rw (c.within.ensures, c.gap.ensures, back w16 d c.distance-distance.type_inv) at c.if-within.false in
     let a = c.args in
-    let one = cell-one _ h _ _ _ _ _ _ d c.requires.3 c.distance-distance.ensures in
+    let one = cell_one _ h _ _ _ _ _ _ d c.requires.3 c.distance-distance.ensures in
     record {
       row = run_skip _ _ _ _ _ _ _ (omega (arith, c.requires.1.ahead))
-          (far-cell a.job a.numbers a.bytes a.frames a.fields c.requires.0 _ _ _ d one far);
+          (far_cell a.job a.numbers a.bytes a.frames a.fields c.requires.0 _ _ _ d one far);
       holds = c.requires.2.holds;
     }

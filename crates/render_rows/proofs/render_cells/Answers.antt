@@ -3,7 +3,7 @@ use mathlib.Core.Path.{refl, ◌∙◌}
 use Prim.Native.Nat.{zero-le}
 use native.Mathlib.Nat.{le_antisymm}
 use native.Mathlib.Omega.{arith}
-use Rattle.render_rows.proofs.Runs.{run_join, run-whole, row_asks}
+use Rattle.render_rows.proofs.Runs.{run_join, run_whole, row_asks}
 use Rattle.lift_rows.proofs.Cells.{run_none}
 use Rattle.render_rows.proofs.render_cells.Goals as goal
 
@@ -38,4 +38,4 @@ loop-x-preserved c =
 pub returns : goal.returns
 returns c =
     let at-loop = c.loop-x in
-    rw (le_antisymm at-loop.invariant.1 c.loop-x-test.false) at (run-whole at-loop.invariant.0.row)
+    rw (le_antisymm at-loop.invariant.1 c.loop-x-test.false) at (run_whole at-loop.invariant.0.row)

@@ -1,6 +1,6 @@
 -- What is left to answer of `render_rows::render_pixel`'s goals.
 use mathlib.Core.Path.{◌∙◌}
-use Rattle.render_rows.proofs.Runs.{run-one}
+use Rattle.render_rows.proofs.Runs.{run_one}
 use Rattle.render_rows.proofs.Changes.{pixel_is}
 use Rattle.render_rows.proofs.render_pixel.Goals as goal
 
@@ -11,6 +11,6 @@ returns c =
     c.carry-carried.result c.steps_of.result c.timed-steps.result c.requires.3 c.requires.2.rows.is c.carry-carried.ensures
     c.steps_of.ensures c.timed-steps.ensures in
     record {
-      row = run-one (c.render_change-change.ensures ∙ e) (rw c.place-k.ensures at c.stamp-count.ensures);
+      row = run_one (c.render_change-change.ensures ∙ e) (rw c.place-k.ensures at c.stamp-count.ensures);
       holds = c.carry-carried.ensures.holds;
     }

@@ -5,7 +5,7 @@ use native.Mathlib.Omega.{arith}
 use mir.Facts.{to_z-of_z}
 use Rattle.render_rows.proofs.Runs.{run_join, part_asks}
 use Rattle.lift_rows.proofs.Cells.{run_none}
-use Rattle.render_rows.proofs.Changes.{near-part}
+use Rattle.render_rows.proofs.Changes.{near_part}
 use Rattle.render_rows.proofs.render_run.Goals as goal
 
 pub loop-x-init : goal.loop-x-init
@@ -19,7 +19,7 @@ render_pixel-last-requires c =
       c.requires.0,
       part_asks _ _ _ _ (omega arith) c.requires.1 inv.1 (omega arith) inv.3 inv.0.row.few,
       record { rows = c.requires.2.rows; holds = inv.0.holds },
-      rw (to_z-of_z c.ranges.distance) (near-part _ _ c.requires.3 inv.1 (omega arith)),
+      rw (to_z-of_z c.ranges.distance) (near_part _ _ c.requires.3 inv.1 (omega arith)),
     )
 
 pub loop-x-preserved : goal.loop-x-preserved

@@ -6,7 +6,7 @@ use Rattle.sample.proofs.whole.Goals as goal
 pub cut_low-requires : goal.cut_low-requires
 cut_low-requires c =
     let k : Cuts c.args.x c.positive.result = rw c.positive.ensures (cuts c.args.x c.requires) in
-    record { fact_1 = k.sign; fact_2 = k.under }
+    record { unsigned = k.sign; low = k.under }
 
 pub returns : goal.returns
 returns c =

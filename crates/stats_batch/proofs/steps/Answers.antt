@@ -2,7 +2,7 @@
 use mathlib.Core.Path.{refl}
 use Rattle.motion.proofs.Fields.{to, around_place}
 use Rattle.stats_batch.proofs.Laws.{known, small}
-use Rattle.stats_batch.proofs.Four.{no_steps, steps_more, all-steps}
+use Rattle.stats_batch.proofs.Four.{no_steps, steps_more, all_steps}
 use Rattle.stats_batch.proofs.steps.Goals as goal
 
 pub wholes-first-requires : goal.wholes-first-requires
@@ -31,4 +31,4 @@ loop-k-preserved c =
     (to across c.carry_to-held.ensures) c.steps_of-shift.ensures
 
 pub returns : goal.returns
-returns c = let l = c.loop-k in all-steps _ _ _ _ _ _ l.k l.invariant c.loop-k-test.false
+returns c = let l = c.loop-k in all_steps _ _ _ _ _ _ l.k l.invariant c.loop-k-test.false

@@ -3,7 +3,7 @@ use mathlib.Core.Path.{refl, ◌∙◌}
 use Prim.Native.Nat.{zero-le}
 use native.Mathlib.Nat.{le_antisymm}
 use native.Mathlib.Omega.{arith}
-use Rattle.stats_gather.proofs.Pixels.{run_none, first_place, run_more, one-room, one_next, in_part}
+use Rattle.stats_gather.proofs.Pixels.{run_none, first_place, run_more, one_room, one_next, in_part}
 use Rattle.stats_gather.proofs.add_run.Goals as goal
 
 pub loop-k-init : goal.loop-k-init
@@ -18,12 +18,12 @@ at-ia-requires c = in_part c.loop-k.k c.requires.0 c.loop-k-test.true
 pub add_terms-requires : goal.add_terms-requires
 add_terms-requires c =
     let l = c.loop-k in
-    (c.requires.2, omega (arith, c.requires.4, l.invariant.1, l.invariant.3, one-room c.args.task.many l.k c.args.n c.loop-k-test.true))
+    (c.requires.2, omega (arith, c.requires.4, l.invariant.1, l.invariant.3, one_room c.args.task.many l.k c.args.n c.loop-k-test.true))
 
 pub overflow_add-at : goal.overflow_add-at
 overflow_add-at c =
     let l = c.loop-k in
-    omega (arith, c.requires.4, l.invariant.1, one-room c.args.task.many l.k c.args.n c.loop-k-test.true, c.well_formed.0.0)
+    omega (arith, c.requires.4, l.invariant.1, one_room c.args.task.many l.k c.args.n c.loop-k-test.true, c.well_formed.0.0)
 
 pub loop-k-preserved : goal.loop-k-preserved
 loop-k-preserved c =
