@@ -1,5 +1,7 @@
 // The C interface. Each function is a thin one over the proved call, with the whole equation as its contract: the
 // answer, count times 256 plus the number, and every element of every slice that the call may write.
+#![tactic(auto)]
+
 ghost use Rattle.std.specs.Prelude.{◌≡◌};
 ghost use Rattle.rules.specs.Forms.{uncounted};
 ghost use Rattle.rules.specs.Calls.{DistancesCall};
@@ -18,7 +20,8 @@ ghost use Rattle.rules.specs.Host.{numbers, reply_word};
 ghost use Rattle.rules.specs.Parcel.{parcel_write_leaves, parcel_sizes_answer};
 ghost use Rattle.rules.specs.Walk.{walk_start_answer, walk_due_word};
 ghost use Rattle.calls.specs.Lent.{plane_of, mask_of, frames_of, layer_of, motion_by, pair_of, part_of, parts_of, slots_of, fit_of};
-ghost use Rattle.calls.specs.Lent.{stats_call, fit_call, assemble_call, peel_call, unpeel_call, render_call, parcel_write_call, walk_pair_call, walk_layer_call, settings_of, mask_call, apply_call, hold_call};
+ghost use Rattle.calls.specs.Lent.{stats_call, fit_call, assemble_call, peel_call, unpeel_call, render_call};
+ghost use Rattle.calls.specs.Lent.{parcel_write_call, walk_pair_call, walk_layer_call, settings_of, mask_call, apply_call, hold_call};
 ghost use Rattle.parcel_read.specs.Read.{read_by, ReadTold};
 ghost use Rattle.told.specs.Told.{Told, ToldThree, WorkStays, PairTold, LayerTold};
 
@@ -29,8 +32,8 @@ use rules::{Sizes, Walk, Walked};
 
 #[unsafe(no_mangle)]
 pub extern "C" fn safeteal_distances(cells: &mut [u8], width: usize) -> u64
-    ensures { (let c : DistancesCall = record { cells = cells.entry.now; width = width } in
-        Told (uncounted (distances_refusal c)) (distances_leaves c) cells.exit.now result) }
+    ensures { (let c : DistancesCall = record { cells = cells.old; width = width } in
+        Told (uncounted (distances_refusal c)) (distances_leaves c) cells.new result) }
 {
     told::number(distances::distances(cells, width))
 }
