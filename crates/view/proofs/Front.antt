@@ -2,7 +2,7 @@
 --     front_last      the last one becomes another
 --     front_out       it is taken off.        front_in      it is put back
 --     nothings        nothing is had, n times: what is left at exit of n parameters that were passed on
--- Assumes nothing.
+-- Assumes `Logic`.
 use Prim.Native.Nat.{ℕ, zero, suc}
 use mathlib.Core.List.{List, [], ◌∷◌}
 use seplogic.Ra.Ura.{Ura}

@@ -1,5 +1,5 @@
 -- A call of `view::new`, as a walk makes it: what it is passed and asks, what is known of the view that it returns, and
--- that its machine value may stand in a local. `asks` and `typed` assume `Logic`. The rest assumes nothing.
+-- that its machine value may stand in a local. Assumes `Logic`.
 use mathlib.Core.Path.{◌≡◌}
 use mathlib.Core.List.{[], ◌∷◌}
 use lib.Dec.{T as Holds}
