@@ -1,5 +1,6 @@
 -- "Assembly": models and a cover as the numbers of a layer, and the call of assemble.
-use Rattle.rules.specs.Words.{cond, ◌&&◌, List, ℕ, ◌+◌, ◌-◌, ◌*◌, ◌/◌, ◌%◌, ltb, eqb, ℤ, pos, neg_ℤ, ◌+ℤ◌, lt_z, get_or, Float, nan, Gain, Offset}
+use Rattle.std.specs.Prelude.{◌&&◌, ◌+◌, ◌-◌, ◌*◌, ◌/◌, ◌%◌, ◌+ℤ◌}
+use Rattle.rules.specs.Words.{cond, List, ℕ, ltb, eqb, ℤ, pos, neg_ℤ, lt_z, get_or, Float, nan, Gain, Offset}
 use Rattle.rules.specs.Literals.{64·0, 4096·0}
 use Rattle.rules.specs.Float.{◌⊘◌, float, stored}
 use Rattle.rules.specs.Forms.{Fit, tabulate, scan, cells, area, shrunk, leaves}

@@ -1,6 +1,6 @@
 -- "Distances": the chessboard distance transform of Rosenfeld and Pfaltz.
-use Rattle.rules.specs.Words.{cond, List, ℕ, zero, suc, ◌+◌, ◌*◌, ◌/◌, ◌%◌, ltb, length, get_or}
-use Rattle.std.specs.Prelude.{min, max}
+use Rattle.rules.specs.Words.{cond, List, ℕ, zero, suc, ltb, length, get_or}
+use Rattle.std.specs.Prelude.{min, max, ◌+◌, ◌*◌, ◌/◌, ◌%◌}
 use Rattle.rules.specs.Forms.{apart, tabulate, leaves}
 use Rattle.rules.specs.Calls.{DistancesCall}
 use Rattle.rules.specs.Refusals.{distances_refusal}

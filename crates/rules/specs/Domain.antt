@@ -1,5 +1,6 @@
 -- "Domain": what sizes, pitches, lengths and settings must be; lengths are "reckoned in whole numbers, never wrapped".
-use Rattle.rules.specs.Words.{Bool, ◌&&◌, ◌||◌, List, ℕ, ◌+◌, ◌-◌, ◌*◌, ◌/◌, ◌%◌, leb, eqb, ℤ, pos, neg_ℤ, le_z, length, Float}
+use Rattle.std.specs.Prelude.{◌&&◌, ◌||◌, ◌+◌, ◌-◌, ◌*◌, ◌/◌, ◌%◌}
+use Rattle.rules.specs.Words.{Bool, List, ℕ, leb, eqb, ℤ, pos, neg_ℤ, le_z, length, Float}
 use Rattle.rules.specs.Forms.{Plane, Motion, Slot, Part, Fit, Layer, Mask, cells, area, shrunk, each, is_number}
 use Rattle.rules.specs.Literals.{0·0, 1·0}
 use Rattle.rules.specs.Float.{within}

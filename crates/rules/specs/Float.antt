@@ -1,5 +1,6 @@
 -- "Floats follow IEEE 754 binary32. Each operation rounds once, in the Rust's order, never fused."
-use Rattle.rules.specs.Words.{Bool, false, cond, ◌&&◌, ℕ, ◌+◌, ◌*◌, ◌/◌, ℤ, pos, neg_ℤ, Float, nan, inf, fin, binary32, of_int, to_unsigned, is_nan, up, down}
+use Rattle.std.specs.Prelude.{◌&&◌, ◌+◌, ◌*◌, ◌/◌}
+use Rattle.rules.specs.Words.{Bool, false, cond, ℕ, ℤ, pos, neg_ℤ, Float, nan, inf, fin, binary32, of_int, to_unsigned, is_nan, up, down}
 use Prim.Native.Nat as Nat
 use Rattle.std.specs.Float.Ieee as Ieee
 

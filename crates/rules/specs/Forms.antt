@@ -1,7 +1,7 @@
 -- "Rust forms and their stand-ins": the Rust's structs as records, and the words for going through counts, lists and
 -- planes.
-use Rattle.rules.specs.Words.{Bool, true, false, cond, ◌&&◌, ◌||◌, List, [], ◌∷◌, ℕ, zero, suc, ◌+◌, ◌-◌, ◌*◌, ◌/◌, eqb, ℤ, pos, negsuc, get_or, set, Float, Answer}
-use Rattle.std.specs.Prelude.{max}
+use Rattle.rules.specs.Words.{Bool, true, false, cond, List, [], ℕ, zero, suc, eqb, ℤ, pos, negsuc, get_or, set, Float, Answer}
+use Rattle.std.specs.Prelude.{max, ◌&&◌, ◌||◌, ◌∷◌, ◌+◌, ◌-◌, ◌*◌, ◌/◌}
 
 -- ---- the Rust's structs; a pair is across and down, or planes 1 and 2, or luma and chroma
 

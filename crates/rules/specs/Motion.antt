@@ -1,5 +1,6 @@
 -- The motion at a pixel: the Rust's `taps` and `steps`.
-use Rattle.rules.specs.Words.{List, ℕ, ◌+◌, ◌*◌, get_or, Float, Taps, Steps}
+use Rattle.std.specs.Prelude.{◌+◌, ◌*◌}
+use Rattle.rules.specs.Words.{List, ℕ, get_or, Float, Taps, Steps}
 use Rattle.rules.specs.Literals.{0·5, 1·0, 1024·0}
 use Rattle.rules.specs.Float.{◌⊖◌, ◌⊗◌, ◌⊘◌, float, signed, cut, mix}
 use Rattle.rules.specs.Forms.{Motion}

@@ -1,5 +1,6 @@
 -- "Peel": the layer taken off.
-use Rattle.rules.specs.Words.{Bool, true, not, ◌&&◌, List, ℕ, Answer}
+use Rattle.std.specs.Prelude.{◌&&◌}
+use Rattle.rules.specs.Words.{Bool, true, not, List, ℕ, Answer}
 use Rattle.rules.specs.Literals.{0·0}
 use Rattle.rules.specs.Float.{◌≼◌, float, pixel}
 use Rattle.rules.specs.Forms.{Plane, Layer, Rule, plane_size, painted, counted, answer, leaves}

@@ -1,6 +1,6 @@
 -- "Reading": what a lent layer and a byte plane hold at a pixel, and between pixels.
-use Rattle.rules.specs.Words.{Bool, false, cond, not, ◌&&◌, ℕ, ◌+◌, ◌-◌, ◌*◌, ◌/◌, eqb, ℤ, pos, get_or, Float, Reply, Model, Gain, Offset}
-use Rattle.std.specs.Prelude.{min}
+use Rattle.rules.specs.Words.{Bool, false, cond, not, ℕ, eqb, ℤ, pos, get_or, Float, Reply, Model, Gain, Offset}
+use Rattle.std.specs.Prelude.{min, ◌&&◌, ◌+◌, ◌-◌, ◌*◌, ◌/◌}
 use Rattle.std.specs.Float.Ieee as Ieee
 use Rattle.rules.specs.Literals.{0·0, 8·0, 64·0, 4096·0}
 use Rattle.rules.specs.Float.{◌⊕◌, ◌⊖◌, ◌⊗◌, ◌⊘◌, float, signed, cut, clamp, mix}

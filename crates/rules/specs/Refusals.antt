@@ -1,6 +1,7 @@
 -- "Domain", its table: the rows of each call, "checked in this order". Rows that a call does not have are left out, and
 -- the last one altogether: 02 takes it away.
-use Rattle.rules.specs.Words.{Bool, cond, not, ◌&&◌, ◌||◌, List, [], ◌∷◌, ℕ, leb, eqb, length}
+use Rattle.std.specs.Prelude.{◌&&◌, ◌||◌, ◌∷◌}
+use Rattle.rules.specs.Words.{Bool, cond, not, List, [], ℕ, leb, eqb, length}
 use Rattle.rules.specs.Literals.{0·0, 0·5, 255·0, 65536·0}
 use Rattle.rules.specs.Float.{within}
 use Rattle.rules.specs.Forms.{Plane, Motion, Pair, Part, Layer, shrunk, plane_size}

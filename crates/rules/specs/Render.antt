@@ -1,5 +1,6 @@
 -- "Render": the layer laid on a frame made between two others.
-use Rattle.rules.specs.Words.{Bool, true, false, cond, not, ◌&&◌, ◌||◌, List, [], ◌∷◌, ℕ, ℤ, Float, Answer, Model, Steps, Moved, Scene, Lifted, Raw}
+use Rattle.std.specs.Prelude.{◌&&◌, ◌||◌, ◌∷◌}
+use Rattle.rules.specs.Words.{Bool, true, false, cond, not, List, [], ℕ, ℤ, Float, Answer, Model, Steps, Moved, Scene, Lifted, Raw}
 use Prim.Native.Nat as Nat
 use Rattle.rules.specs.Literals.{0·0001, 0·01, 0·2, 1·0, 2·5, 16·0}
 use Rattle.rules.specs.Float.{◌⊕◌, ◌⊖◌, ◌⊗◌, ◌⊘◌, ◌≺◌, ◌≼◌, float, signed, abs, max, mix, median, pixel}

@@ -1,5 +1,6 @@
 -- "Scene": what lies under the layer at a point.
-use Rattle.rules.specs.Words.{Bool, true, false, cond, ℕ, ◌/◌, ◌%◌, eqb, sub_ℕ, Float, Model, Ring, Scene, Lifted, Raw}
+use Rattle.std.specs.Prelude.{◌/◌, ◌%◌}
+use Rattle.rules.specs.Words.{Bool, true, false, cond, ℕ, eqb, sub_ℕ, Float, Model, Ring, Scene, Lifted, Raw}
 use Rattle.rules.specs.Literals.{0·0, 0·2, 1·0, 4·0, 255·0}
 use Rattle.rules.specs.Float.{◌⊕◌, ◌⊖◌, ◌⊗◌, ◌⊘◌, ◌≺◌, ◌≼◌, float, signed, abs, clamp}
 use Rattle.rules.specs.Forms.{Plane, Layer, plane_ratio, plane_size, turns}

@@ -1,5 +1,6 @@
 -- "After the chain": the sums to which stats adds one pair.
-use Rattle.rules.specs.Words.{cond, List, [], ◌∷◌, ℕ, suc, ◌+◌, ◌*◌, ◌/◌, ◌%◌, eqb, get_or, Float, nan}
+use Rattle.std.specs.Prelude.{◌∷◌, ◌+◌, ◌*◌, ◌/◌, ◌%◌}
+use Rattle.rules.specs.Words.{cond, List, [], ℕ, suc, eqb, get_or, Float, nan}
 use Rattle.rules.specs.Literals.{0·0, 24·0}
 use Rattle.rules.specs.Float.{◌⊕◌, ◌⊖◌, ◌⊗◌, ◌≺◌, float, abs}
 use Rattle.rules.specs.Forms.{Plane, Motion, Part, tabulate, area, shrunk, leaves}

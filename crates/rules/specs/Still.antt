@@ -1,5 +1,6 @@
 -- "still.rs": mask, apply and hold.
-use Rattle.rules.specs.Words.{Bool, cond, ◌&&◌, ◌||◌, List, ℕ, ◌+◌, ◌-◌, ◌*◌, ◌/◌, ◌%◌, ltb, length, get_or, Float}
+use Rattle.std.specs.Prelude.{◌&&◌, ◌||◌, ◌+◌, ◌-◌, ◌*◌, ◌/◌, ◌%◌}
+use Rattle.rules.specs.Words.{Bool, cond, List, ℕ, ltb, length, get_or, Float}
 use Prim.Native.Nat as Nat
 use Rattle.rules.specs.Literals.{4·0, 255·0}
 use Rattle.rules.specs.Float.{◌⊖◌, ◌⊗◌, ◌⊘◌, ◌≺◌, ◌≼◌, float, abs, max, mix, pixel}

@@ -1,5 +1,6 @@
 -- "Unpeel": the layer laid back on frames that were made without it.
-use Rattle.rules.specs.Words.{cond, ◌||◌, List, ℕ, Float, Answer, Model}
+use Rattle.std.specs.Prelude.{◌||◌}
+use Rattle.rules.specs.Words.{cond, List, ℕ, Float, Answer, Model}
 use Rattle.rules.specs.Literals.{0·2, 2·5}
 use Rattle.rules.specs.Float.{◌⊕◌, ◌⊖◌, ◌⊗◌, ◌≺◌, ◌≼◌, float, abs, mix, median, pixel}
 use Rattle.rules.specs.Forms.{Layer, Frames, Rule, plane_size, painted, counted, answer, leaves}

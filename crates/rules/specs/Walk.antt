@@ -1,6 +1,6 @@
 -- 02, "W-204. Walking a whole clip.": a clip's chunks, when a layer is due, and what a walk's calls answer and leave.
-use Rattle.std.specs.Prelude.{min}
-use Rattle.rules.specs.Words.{Bool, cond, not, ◌&&◌, ◌||◌, List, [], ◌∷◌, ℕ, ◌+◌, ◌-◌, ◌*◌, ◌/◌, ◌%◌, leb, ltb, eqb, get_or, set, Walk, Walked}
+use Rattle.std.specs.Prelude.{min, ◌&&◌, ◌||◌, ◌∷◌, ◌+◌, ◌-◌, ◌*◌, ◌/◌, ◌%◌}
+use Rattle.rules.specs.Words.{Bool, cond, not, List, [], ℕ, leb, ltb, eqb, get_or, set, Walk, Walked}
 use Rattle.rules.specs.Forms.{Slot, Part, Parts, Fit, part, absent, uncounted, leaves}
 use Rattle.rules.specs.Calls.{StatsCall, FitCall, WalkPairCall, WalkLayerCall}
 use Rattle.rules.specs.Domain.{are_sizes, is_ratio, are_slots}

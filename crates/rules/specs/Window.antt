@@ -1,5 +1,6 @@
 -- "Window": what is found at one luma pixel, among three trials.
-use Rattle.rules.specs.Words.{Bool, true, false, cond, not, ◌&&◌, ◌||◌, List, [], ◌∷◌, ℕ, ◌+◌, ◌*◌, ◌/◌, ◌%◌, eqb, get_or, Float, nan, Best, Trial, All, PreviousOwn, OwnNext, Found, At, Nothing}
+use Rattle.std.specs.Prelude.{◌&&◌, ◌||◌, ◌∷◌, ◌+◌, ◌*◌, ◌/◌, ◌%◌}
+use Rattle.rules.specs.Words.{Bool, true, false, cond, not, List, [], ℕ, eqb, get_or, Float, nan, Best, Trial, All, PreviousOwn, OwnNext, Found, At, Nothing}
 use Rattle.rules.specs.Literals.{0·0, 1·15, 1·7, 2·0, 4·0}
 use Rattle.rules.specs.Float.{◌⊕◌, ◌⊖◌, ◌⊗◌, ◌⊘◌, ◌≺◌, ◌≼◌, float}
 use Rattle.rules.specs.Forms.{Part, Parts}

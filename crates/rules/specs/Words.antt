@@ -1,5 +1,5 @@
 -- The words of antt's libraries, and the types of src/lib.rt, that the rules are written in.
-pub use Rattle.std.specs.Prelude.{Bool, true, false, cond, not, ◌&&◌, ◌||◌, List, [], ◌∷◌, ◌++◌, ℕ, zero, suc, ◌+◌, ◌-◌, ◌*◌, ◌/◌, ◌%◌, leb, ltb, eqb, ℤ, pos, negsuc, neg_ℤ, ◌+ℤ◌, length, get_or, set, take, drop, Float}
+pub use Rattle.std.specs.Prelude.{Bool, true, false, cond, not, List, [], ℕ, zero, suc, leb, ltb, eqb, ℤ, pos, negsuc, neg_ℤ, length, get_or, set, take, drop, Float}
 pub use Rattle.std.proofs.Math.IntN.{sub_ℕ}
 pub use Rattle.std.specs.Int.Signed.{le_z, lt_z}
 pub use Rattle.std.specs.Float.{nan, inf, fin, binary32}
