@@ -3,12 +3,6 @@ use mathlib.Core.Path.{◌∙◌}
 use Rattle.motion.proofs.Fields.{same_rows}
 use Rattle.render_rows.proofs.render_row.Goals as goal
 
-pub around-carried-requires : goal.around-carried-requires
-around-carried-requires c =
-    let rows = c.row_taps-down.ensures in
-    let moves = c.requires.0.moves in
-    (record { laid = moves.laid; forward = moves.forward; backward = moves.backward }, record { first_in = rows.first_in; second_in = rows.second_in }, c.column_taps-across.ensures.first_in)
-
 pub render_cells-requires : goal.render_cells-requires
 render_cells-requires c =
     let j = c.args.job in

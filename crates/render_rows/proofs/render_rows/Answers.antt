@@ -1,7 +1,6 @@
 -- What is left to answer of `render_rows::render_rows`'s goals.
 use mathlib.Core.Path.{refl, ◌∙◌}
 use Prim.Native.Nat.{zero-le}
-use native.Mathlib.Nat.{le_antisymm}
 use native.Mathlib.Omega.{arith}
 use Rattle.plane.proofs.Laws.{rows_none, rows_more}
 use Rattle.lift_rows.proofs.Cells.{row_in}
@@ -20,22 +19,9 @@ render_row-count-requires c =
     let room = row_in c.loop-y.y a.job.plan.down a.job.plan.shape.output_pitch a.job.plan.across _ below asks.long in
     (c.requires.0, record { above = below; narrow = asks.apart.1; room = omega (arith, room, inv.2); few = omega (arith, inv.0.few, below, h.tall) })
 
-pub overflow_add-y : goal.overflow_add-y
-overflow_add-y c =
-    let h = c.requires.0.framed.first_ready.lies.sound.planned in
-    omega (arith, c.loop-y-test.true, h.tall)
-
-pub loop-y-smaller : goal.loop-y-smaller
-loop-y-smaller c = omega (arith, c.loop-y-test.true)
-
 pub loop-y-preserved : goal.loop-y-preserved
 loop-y-preserved c =
     let done = c.render_row-count in
     let inv = c.loop-y.invariant in
     let h = c.requires.0.framed.first_ready.lies.sound.planned in
     (rows_more h.wide.1 inv.0 done.ensures, omega (arith, c.loop-y-test.true), done.auto.output ∙ inv.2)
-
-pub returns : goal.returns
-returns c =
-    let at-loop = c.loop-y in
-    rw (le_antisymm at-loop.invariant.1 c.loop-y-test.false) at at-loop.invariant.0

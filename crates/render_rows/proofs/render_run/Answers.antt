@@ -1,16 +1,11 @@
 -- What is left to answer of `render_rows::render_run`'s goals.
-use mathlib.Core.Path.{refl, ◌∙◌}
+use mathlib.Core.Path.{◌∙◌}
 use native.Mathlib.Nat.{le_antisymm}
 use native.Mathlib.Omega.{arith}
 use mir.Facts.{to_z-of_z}
 use Rattle.render_rows.proofs.Runs.{run_join, part_asks}
-use Rattle.lift_rows.proofs.Cells.{run_none}
 use Rattle.render_rows.proofs.Changes.{near_part}
 use Rattle.render_rows.proofs.render_run.Goals as goal
-
-pub loop-x-init : goal.loop-x-init
-loop-x-init c =
-    (record { row = run_none _ _ _ _ _ _; holds = c.requires.2.holds }, omega arith, omega (arith, c.requires.1.ahead), refl)
 
 pub render_pixel-last-requires : goal.render_pixel-last-requires
 render_pixel-last-requires c =
