@@ -1,5 +1,7 @@
 // The round trip of a parcel held to the exported calls: a function that makes them has the round trip for its
 // contract. Its theorem is the crate parcel_trip's.
+#![tactic(auto)]
+
 ghost use Rattle.std.specs.Prelude.{◌≡◌, true};
 ghost use Rattle.rules.specs.Forms.{each};
 ghost use Rattle.rules.specs.Parcel.{is_short};
@@ -11,7 +13,7 @@ use layer_lent::Shape;
 use rules::Sizes;
 
 // What the three calls answered.
-#[derive(Drop)]
+#[derive(Clone, Copy)]
 pub struct Answers {
     pub written: u64,
     pub sizes: Sizes,
