@@ -58,10 +58,8 @@ fn next(all: &[u8], at: usize) -> usize {
 // Where the slice k stands; after the last one, where the right answer stands.
 pub fn slice(all: &[u8], at: usize, k: u8) -> usize {
     let mut place = after(all, slices(all, at), 4);
-    let mut left = k;
-    while left > 0 {
+    for _ in 0..k {
         place = next(all, place);
-        left -= 1;
     }
     place
 }

@@ -3,7 +3,7 @@ use crate::arguments::{slice, slices};
 use crate::list::{PAST_END, after};
 
 // A comparison: where what comes next stands, and whether all was right so far.
-#[derive(Drop)]
+#[derive(Clone, Copy)]
 pub struct Check {
     pub at: usize,
     pub same: bool,
@@ -36,13 +36,11 @@ pub fn answer(all: &[u8], at: usize, count: u8, ours: u64) -> Check {
 pub fn bytes(all: &[u8], check: Check, ours: &[u8]) -> Check {
     let mut at = check.at;
     let mut same = check.same;
-    let mut i = 0;
-    while i < ours.len() {
-        if crate::list::wide(ours[i]) != crate::list::byte(all, at) {
+    for byte in ours {
+        if crate::list::wide(*byte) != crate::list::byte(all, at) {
             same = false;
         }
         at = after(all, at, 1);
-        i += 1;
     }
     Check { at, same }
 }
@@ -51,13 +49,11 @@ pub fn bytes(all: &[u8], check: Check, ours: &[u8]) -> Check {
 pub fn shorts(all: &[u8], check: Check, ours: &[i16]) -> Check {
     let mut at = check.at;
     let mut same = check.same;
-    let mut i = 0;
-    while i < ours.len() {
-        if ours[i] != crate::list::signed(all, at) {
+    for number in ours {
+        if *number != crate::list::signed(all, at) {
             same = false;
         }
         at = after(all, at, 2);
-        i += 1;
     }
     Check { at, same }
 }
@@ -66,13 +62,11 @@ pub fn shorts(all: &[u8], check: Check, ours: &[i16]) -> Check {
 pub fn floats(all: &[u8], check: Check, ours: &[f32]) -> Check {
     let mut at = check.at;
     let mut same = check.same;
-    let mut i = 0;
-    while i < ours.len() {
-        if bits(ours[i]) != bits(crate::list::float(all, at)) {
+    for number in ours {
+        if bits(*number) != bits(crate::list::float(all, at)) {
             same = false;
         }
         at = after(all, at, 4);
-        i += 1;
     }
     Check { at, same }
 }

@@ -9,19 +9,19 @@ pub const COUNTS: usize = CALLS + 1;
 // One case. What no call here has cannot be read, nor can what comes after it.
 fn run(all: &[u8], at: usize) -> Check {
     match crate::list::long(all, at) {
-        0 => crate::calls::distances::run(all, at),
-        1 => crate::calls::mask::run(all, at),
-        2 => crate::calls::apply::run(all, at),
-        3 => crate::calls::hold::run(all, at),
-        4 => crate::calls::peel::run(all, at),
-        5 => crate::calls::unpeel::run(all, at),
-        6 => crate::calls::peel_numbers::run(all, at),
-        7 => crate::calls::unpeel_numbers::run(all, at),
-        8 => crate::calls::empty::run(all, at),
-        9 => crate::calls::stats::run(all, at),
-        10 => crate::calls::assemble::run(all, at),
-        11 => crate::calls::fit::run(all, at),
-        12 => crate::calls::render::run(all, at),
+        0 => crate::cases::of_distances::run(all, at),
+        1 => crate::cases::of_mask::run(all, at),
+        2 => crate::cases::of_apply::run(all, at),
+        3 => crate::cases::of_hold::run(all, at),
+        4 => crate::cases::of_peel::run(all, at),
+        5 => crate::cases::of_unpeel::run(all, at),
+        6 => crate::cases::of_peel_numbers::run(all, at),
+        7 => crate::cases::of_unpeel_numbers::run(all, at),
+        8 => crate::cases::of_empty::run(all, at),
+        9 => crate::cases::of_stats::run(all, at),
+        10 => crate::cases::of_assemble::run(all, at),
+        11 => crate::cases::of_fit::run(all, at),
+        12 => crate::cases::of_render::run(all, at),
         _ => crate::right::unread(),
     }
 }

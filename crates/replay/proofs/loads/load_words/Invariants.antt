@@ -1,0 +1,10 @@
+-- The loop of `replay::loads::load_words`: the array has room for all that is copied, and keeps its length.
+use Rattle.std.proofs.Common.{◌-◌}
+use Rattle.replay.proofs.Filled.{Filled}
+use Rattle.replay.proofs.loads.load_words.Given as goal
+
+abbrev pub invariant-loop-i : goal.invariant-loop-i
+invariant-loop-i l = Filled l.n l.initial.into l.into
+
+abbrev pub decreases-loop-i : goal.decreases-loop-i
+decreases-loop-i l = l.n - l.i

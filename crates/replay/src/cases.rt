@@ -1,0 +1,13 @@
+pub mod of_apply;
+pub mod of_assemble;
+pub mod of_distances;
+pub mod of_empty;
+pub mod of_fit;
+pub mod of_hold;
+pub mod of_mask;
+pub mod of_peel;
+pub mod of_peel_numbers;
+pub mod of_render;
+pub mod of_stats;
+pub mod of_unpeel;
+pub mod of_unpeel_numbers;
