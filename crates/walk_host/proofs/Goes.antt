@@ -32,7 +32,12 @@ not_eight n r s e w o = not_answered 0 n r.word o (ap (λ (s : Walked). s.word) 
 
 pub starts : (size : ℕ × ℕ) (ratio pairs : ℕ) (r : Walked) → r ≡ walk_start_answer size ratio pairs → Starts size ratio pairs r
 unfolding after_all
-starts size ratio pairs r e = record { told = e; other = not_eight (walk_start_refusal size ratio) r _ e refl (never_eight.walk_start size ratio); begins = λ slots. record { walk_is = rw e; slots_are = refl } }
+starts size ratio pairs r e =
+    record {
+      told = e;
+      other = not_eight (walk_start_refusal size ratio) r _ e refl (never_eight.walk_start size ratio);
+      begins = λ slots. record { walk_is = rw e; slots_are = refl };
+    }
 
 -- a stand by its walk and its slots
 stands : (b : Beginning) (calls : List Call) (walk : Walk) (slots : List Slot) → Comes b calls walk slots → after_all (from b) calls ≡ record { walk = walk; slots = slots }
@@ -68,7 +73,16 @@ hands walk slots number pair left r t = record { told = t.told; other = not_eigh
 
 pub takes : (walk : Walk) (slots : List Slot) (asked : Asked) (left : Fit) (r : Walked) (models : List Float) (kept cover : List ℕ)
     → LayerTold (taken (record { walk = walk; slots = slots }) asked) models kept cover left r → Takes walk slots asked left r
-takes walk slots asked left r models kept cover t = record { told = t.told; other = not_eight _ r _ t.told refl (never_eight.walk_layer _); goes = goes; layer = layer; accepted = accepted; reached = reached; took = took }
+takes walk slots asked left r models kept cover t =
+    record {
+      told = t.told;
+      other = not_eight _ r _ t.told refl (never_eight.walk_layer _);
+      goes = goes;
+      layer = layer;
+      accepted = accepted;
+      reached = reached;
+      took = took;
+    }
   where
     goes : (b : Beginning) (calls : List Call) → Comes b calls walk slots → Comes b (calls ++ layer_call asked ∷ []) r.walk slots
     goes b calls h =

@@ -2,6 +2,8 @@
 // evidence_walk's. Each function here is such a call, and its contract says that the walk goes on by it, whatever calls
 // came before; of a layer also that it is the one of the clip held together; and that 8 is not answered. A pair is lent
 // as the exported call is lent it.
+#![tactic(auto)]
+
 ghost use Rattle.calls.specs.Lent.{plane_of, motion_by, pair_of, slots_of, fit_of};
 ghost use Rattle.walk_layer.specs.Call.{slots_by};
 ghost use Rattle.walk_host.specs.Held.{Starts, Hands, Takes, asked_by};
