@@ -52,7 +52,7 @@ module _ (z : ℤ) (small : nat_abs z ≤ 524288) where
   test_at n k j least scale whole low up down =
       let x = signed z ⊘ fin false 1 (pos k) in
       let v : HasValue x (minus? z) (nat_abs z) (2 ^ k) =
-          rw (div_at k (signed z) (minus? z) (nat_abs z) (int_value binary32 z (le_trans small (lit≤ tt)))) (exact (minus? z) (nat_abs z) k j whole low small) in
+      rw (div_at k (signed z) (minus? z) (nat_abs z) (int_value binary32 z (le_trans small (lit≤ tt)))) (exact (minus? z) (nat_abs z) k j whole low small) in
       let w = abs_value x (minus? z) (nat_abs z) (2 ^ k) v in
       rw scale
       (same_test (le 0·2 (abs x)) (leb least (nat_abs z))

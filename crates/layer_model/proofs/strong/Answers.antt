@@ -31,7 +31,7 @@ returns-else-least-total c =
     let t = rw (is, total) at c.if-least-total.false in
     let least = pos (least_of a.span) in
     let shown : le_z (to_z w32 (of_z w32 a.total)) (to_z w32 (of_z w32 (pos 0 +ℤ neg_ℤ (to_z w32 (of_z w32 c.least-least.result))))) ≡ le_z a.total (neg_ℤ least) =
-        rw (is, total, nought (neg_ℤ least), back w32 (neg_ℤ least) (minus_fits a.span).sfits) in
+    rw (is, total, nought (neg_ℤ least), back w32 (neg_ℤ least) (minus_fits a.span).sfits) in
     shown
     ∙ at_most (least_of a.span) a.total (some_least a.span) t
     ∙ sym (fifth_test a.total c.requires.0 a.span c.requires.1 c.requires.2 c.requires.3)

@@ -29,18 +29,18 @@ algo_is algo n fits h e = sym (number algo n h fits) ∙ e
 pub returns-then-algo-eq1 : goal.returns-then-algo-eq1
 returns-then-algo-eq1 c =
     sym (both _ _ _ _ _ _ c.in-Lifted.is c.in-Lifted-second.is
-      ∙ simp (algo_is _ 1 c.ranges.algo (lit< tt) (eq-eqb _ _ c.if-algo-eq1.true)))
+    ∙ simp (algo_is _ 1 c.ranges.algo (lit< tt) (eq-eqb _ _ c.if-algo-eq1.true)))
 
 pub returns-then-algo-eq2 : goal.returns-then-algo-eq2
 returns-then-algo-eq2 c =
     sym (both _ _ _ _ _ _ c.in-Lifted.is c.in-Lifted-second.is
-      ∙ simp (algo_is _ 1 c.ranges.algo (lit< tt) (ne_eqb _ _ c.if-algo-eq1.false), algo_is _ 2 c.ranges.algo (lit< tt) (eq-eqb _ _ c.if-algo-eq2.true)))
+    ∙ simp (algo_is _ 1 c.ranges.algo (lit< tt) (ne_eqb _ _ c.if-algo-eq1.false), algo_is _ 2 c.ranges.algo (lit< tt) (eq-eqb _ _ c.if-algo-eq2.true)))
 
 pub returns-else-algo-eq2 : goal.returns-else-algo-eq2
 returns-else-algo-eq2 c =
     c.median.ensures
     ∙ sym (both _ _ _ _ _ _ c.in-Lifted.is c.in-Lifted-second.is
-      ∙ simp (algo_is _ 1 c.ranges.algo (lit< tt) (ne_eqb _ _ c.if-algo-eq1.false), algo_is _ 2 c.ranges.algo (lit< tt) (ne_eqb _ _ c.if-algo-eq2.false)))
+    ∙ simp (algo_is _ 1 c.ranges.algo (lit< tt) (ne_eqb _ _ c.if-algo-eq1.false), algo_is _ 2 c.ranges.algo (lit< tt) (ne_eqb _ _ c.if-algo-eq2.false)))
 
 pub returns-in-Raw-second : goal.returns-in-Raw-second
 unfolding chosen_of
