@@ -1,5 +1,6 @@
 // The C interface. Each function is a thin one over the proved call, with the whole equation as its contract: the
-// answer, count times 256 plus the number, and every element of every slice that the call may write.
+// answer, count times 256 plus the number, and every element of every slice that the call may write. The symbols are
+// those of `host_c`, a static library: here the functions are for crates that stand on them.
 #![tactic(auto)]
 
 ghost use Rattle.std.specs.Prelude.{◌≡◌};
@@ -30,16 +31,14 @@ use layer_lent::Shape;
 use motion::Grid;
 use rules::{Sizes, Walk, Walked};
 
-#[unsafe(no_mangle)]
-pub extern "C" fn safeteal_distances(cells: &mut [u8], width: usize) -> u64
+pub fn safeteal_distances(cells: &mut [u8], width: usize) -> u64
     ensures { (let c : DistancesCall = record { cells = cells.old; width = width } in
         Told (uncounted (distances_refusal c)) (distances_leaves c) cells.new result) }
 {
     told::number(distances::distances(cells, width))
 }
 
-#[unsafe(no_mangle)]
-pub extern "C" fn safeteal_mask(
+pub fn safeteal_mask(
     first: &[u8],
     second: &[u8],
     pitch: usize,
@@ -66,8 +65,7 @@ pub extern "C" fn safeteal_mask(
     told::number(still_mask::mask(still, first, second, pitch, width, height, settings))
 }
 
-#[unsafe(no_mangle)]
-pub extern "C" fn safeteal_apply<'f>(
+pub fn safeteal_apply<'f>(
     output: &mut [u8],
     output_pitch: usize,
     first: &'f [u8],
@@ -97,8 +95,7 @@ pub extern "C" fn safeteal_apply<'f>(
     told::number(still_apply::apply(output, [first, second], still, numbers))
 }
 
-#[unsafe(no_mangle)]
-pub extern "C" fn safeteal_hold(
+pub fn safeteal_hold(
     output: &mut [u8],
     output_pitch: usize,
     held: &[u8],
@@ -126,8 +123,7 @@ pub extern "C" fn safeteal_hold(
     told::number(still_hold::hold(output, held, mask, numbers))
 }
 
-#[unsafe(no_mangle)]
-pub extern "C" fn safeteal_stats<'f, 'm>(
+pub fn safeteal_stats<'f, 'm>(
     luma: &mut [f32],
     chroma1: &mut [f32],
     chroma2: &mut [f32],
@@ -199,8 +195,7 @@ pub extern "C" fn safeteal_stats<'f, 'm>(
     told::number(stats::stats(luma, chroma1, chroma2, first, second, fields, numbers))
 }
 
-#[unsafe(no_mangle)]
-pub extern "C" fn safeteal_assemble(
+pub fn safeteal_assemble(
     width: usize,
     height: usize,
     ratio: usize,
@@ -223,8 +218,7 @@ pub extern "C" fn safeteal_assemble(
 
 // `before`, `pairs` and `after` are the pairs of the previous, own and next part. What the work slices (models, kept,
 // cover) hold after acceptance is left free: alone of all slices here.
-#[unsafe(no_mangle)]
-pub extern "C" fn safeteal_fit<'s>(
+pub fn safeteal_fit<'s>(
     previous: &'s [f32],
     previous1: &'s [f32],
     previous2: &'s [f32],
@@ -281,8 +275,7 @@ pub extern "C" fn safeteal_fit<'s>(
     told::number(fit::fit(models, kept, cover, luma, chroma1, chroma2, sums, numbers))
 }
 
-#[unsafe(no_mangle)]
-pub extern "C" fn safeteal_peel<'b>(
+pub fn safeteal_peel<'b>(
     luma: &'b [u8],
     chroma1: &'b [u8],
     chroma2: &'b [u8],
@@ -331,8 +324,7 @@ pub extern "C" fn safeteal_peel<'b>(
     ))
 }
 
-#[unsafe(no_mangle)]
-pub extern "C" fn safeteal_unpeel<'b, 'f>(
+pub fn safeteal_unpeel<'b, 'f>(
     luma: &'b [u8],
     chroma1: &'b [u8],
     chroma2: &'b [u8],
@@ -386,8 +378,7 @@ pub extern "C" fn safeteal_unpeel<'b, 'f>(
     ))
 }
 
-#[unsafe(no_mangle)]
-pub extern "C" fn safeteal_peel_numbers<'n>(
+pub fn safeteal_peel_numbers<'n>(
     luma: &'n [i16],
     chroma1: &'n [i16],
     chroma2: &'n [i16],
@@ -434,8 +425,7 @@ pub extern "C" fn safeteal_peel_numbers<'n>(
     ))
 }
 
-#[unsafe(no_mangle)]
-pub extern "C" fn safeteal_unpeel_numbers<'n, 'f>(
+pub fn safeteal_unpeel_numbers<'n, 'f>(
     luma: &'n [i16],
     chroma1: &'n [i16],
     chroma2: &'n [i16],
@@ -487,8 +477,7 @@ pub extern "C" fn safeteal_unpeel_numbers<'n, 'f>(
     ))
 }
 
-#[unsafe(no_mangle)]
-pub extern "C" fn safeteal_empty<'n>(
+pub fn safeteal_empty<'n>(
     luma: &'n [i16],
     chroma1: &'n [i16],
     chroma2: &'n [i16],
@@ -521,8 +510,7 @@ pub extern "C" fn safeteal_empty<'n>(
     told::reply(empty::empty(shape, [luma, chroma1, chroma2], bytes))
 }
 
-#[unsafe(no_mangle)]
-pub extern "C" fn safeteal_render<'n, 'f, 'm>(
+pub fn safeteal_render<'n, 'f, 'm>(
     luma: &'n [i16],
     chroma1: &'n [i16],
     chroma2: &'n [i16],
@@ -599,8 +587,7 @@ pub extern "C" fn safeteal_render<'n, 'f, 'm>(
     ))
 }
 
-#[unsafe(no_mangle)]
-pub extern "C" fn safeteal_parcel_write<'n>(
+pub fn safeteal_parcel_write<'n>(
     luma: &'n [i16],
     chroma1: &'n [i16],
     chroma2: &'n [i16],
@@ -636,8 +623,7 @@ pub extern "C" fn safeteal_parcel_write<'n>(
     told::number(parcel_write::write(parcel, shape, [luma, chroma1, chroma2], bytes))
 }
 
-#[unsafe(no_mangle)]
-pub extern "C" fn safeteal_parcel_read(
+pub fn safeteal_parcel_read(
     parcel: &[u8],
     luma: &mut [i16],
     chroma1: &mut [i16],
@@ -650,28 +636,20 @@ pub extern "C" fn safeteal_parcel_read(
     parcel_read::read(luma, chroma1, chroma2, parcel)
 }
 
-#[unsafe(no_mangle)]
-pub extern "C" fn safeteal_parcel_sizes(parcel: &[u8]) -> Sizes
+pub fn safeteal_parcel_sizes(parcel: &[u8]) -> Sizes
     ensures { result ≡ parcel_sizes_answer parcel.now }
 {
     parcel_read::sizes_of(parcel)
 }
 
-#[unsafe(no_mangle)]
-pub extern "C" fn safeteal_walk_start(
-    width: usize,
-    height: usize,
-    ratio: usize,
-    pairs: usize,
-) -> Walked
+pub fn safeteal_walk_start(width: usize, height: usize, ratio: usize, pairs: usize) -> Walked
     ensures { result ≡ walk_start_answer (width, height) ratio pairs }
 {
     walk_state::start(width, height, ratio, pairs)
 }
 
 // Of the sums, `chroma12` are those of plane 2 in slot 1.
-#[unsafe(no_mangle)]
-pub extern "C" fn safeteal_walk_pair<'f, 'm>(
+pub fn safeteal_walk_pair<'f, 'm>(
     walk: Walk,
     luma0: &mut [f32],
     chroma01: &mut [f32],
@@ -755,8 +733,7 @@ pub extern "C" fn safeteal_walk_pair<'f, 'm>(
 }
 
 // What the work slices (models, kept, cover) hold after acceptance is left free, as in fit.
-#[unsafe(no_mangle)]
-pub extern "C" fn safeteal_walk_layer<'s>(
+pub fn safeteal_walk_layer<'s>(
     walk: Walk,
     luma0: &'s [f32],
     chroma01: &'s [f32],
@@ -803,23 +780,20 @@ pub extern "C" fn safeteal_walk_layer<'s>(
 }
 
 // The yes stands in the count's place, as in empty.
-#[unsafe(no_mangle)]
-pub extern "C" fn safeteal_walk_due(walk: Walk) -> u64
+pub fn safeteal_walk_due(walk: Walk) -> u64
     ensures { result ≡ walk_due_word walk }
 {
     told::yes(walk_state::asked(walk))
 }
 
 // The final rounding and the storing by themselves, for a run over all floats.
-#[unsafe(no_mangle)]
-pub extern "C" fn safeteal_pixel(value: f32) -> u64
+pub fn safeteal_pixel(value: f32) -> u64
     ensures { result ≡ pixel_of value }
 {
     float::pixel(value) as u64
 }
 
-#[unsafe(no_mangle)]
-pub extern "C" fn safeteal_stored(value: f32, scale: f32) -> i16
+pub fn safeteal_stored(value: f32, scale: f32) -> i16
     ensures { result ≡ stored value scale }
 {
     float::fixed(value, scale)

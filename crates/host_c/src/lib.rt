@@ -1,0 +1,790 @@
+// The symbols of the C interface, as libhost.a has them. Each export is the function of its name in the crate `host`, and
+// has that function's clauses.
+#![tactic(auto)]
+
+ghost use Rattle.std.specs.Prelude.{◌≡◌};
+ghost use Rattle.rules.specs.Forms.{uncounted};
+ghost use Rattle.rules.specs.Calls.{DistancesCall};
+ghost use Rattle.rules.specs.Refusals.{stats_refusal, distances_refusal, parcel_write_refusal, mask_refusal, apply_refusal, hold_refusal, assemble_refusal, fit_refusal};
+ghost use Rattle.rules.specs.Float.{pixel as pixel_of, stored};
+ghost use Rattle.rules.specs.Distances.{distances_leaves};
+ghost use Rattle.rules.specs.Reading.{empty_answer};
+ghost use Rattle.rules.specs.Assembly.{assemble_leaves};
+ghost use Rattle.rules.specs.Fit.{fit_leaves};
+ghost use Rattle.rules.specs.Peel.{peel_answer, peel_leaves};
+ghost use Rattle.rules.specs.Unpeel.{unpeel_answer, unpeel_leaves};
+ghost use Rattle.rules.specs.Render.{render_answer, render_leaves};
+ghost use Rattle.rules.specs.Stats.{stats_leaves};
+ghost use Rattle.rules.specs.Still.{mask_leaves, apply_leaves, hold_leaves};
+ghost use Rattle.rules.specs.Host.{numbers, reply_word};
+ghost use Rattle.rules.specs.Parcel.{parcel_write_leaves, parcel_sizes_answer};
+ghost use Rattle.rules.specs.Walk.{walk_start_answer, walk_due_word};
+ghost use Rattle.calls.specs.Lent.{plane_of, mask_of, frames_of, layer_of, motion_by, pair_of, part_of, parts_of, slots_of, fit_of};
+ghost use Rattle.calls.specs.Lent.{stats_call, fit_call, assemble_call, peel_call, unpeel_call, render_call};
+ghost use Rattle.calls.specs.Lent.{parcel_write_call, walk_pair_call, walk_layer_call, settings_of, mask_call, apply_call, hold_call};
+ghost use Rattle.parcel_read.specs.Read.{read_by, ReadTold};
+ghost use Rattle.told.specs.Told.{Told, ToldThree, WorkStays, PairTold, LayerTold};
+
+use rules::{Sizes, Walk, Walked};
+
+#[unsafe(no_mangle)]
+pub extern "C" fn safeteal_distances(cells: &mut [u8], width: usize) -> u64
+    ensures { (let c : DistancesCall = record { cells = cells.old; width = width } in
+        Told (uncounted (distances_refusal c)) (distances_leaves c) cells.new result) }
+{
+    host::safeteal_distances(cells, width)
+}
+
+#[unsafe(no_mangle)]
+pub extern "C" fn safeteal_mask(
+    first: &[u8],
+    second: &[u8],
+    pitch: usize,
+    width: usize,
+    height: usize,
+    limit: f32,
+    edge: f32,
+    tolerance: f32,
+    still: &mut [u8],
+) -> u64
+    ensures { let c = mask_call
+        (plane_of first.now pitch)
+        (plane_of second.now pitch)
+        width height
+        (settings_of limit edge tolerance)
+        still.old in
+        Told (uncounted (mask_refusal c)) (mask_leaves c) still.new result }
+{
+    host::safeteal_mask(
+        first, second, pitch, width, height, limit, edge, tolerance, still,
+    )
+}
+
+#[unsafe(no_mangle)]
+pub extern "C" fn safeteal_apply<'f>(
+    output: &mut [u8],
+    output_pitch: usize,
+    first: &'f [u8],
+    second: &'f [u8],
+    pitch: usize,
+    width: usize,
+    height: usize,
+    still: &[u8],
+    still_width: usize,
+    time: f32,
+) -> u64
+    ensures { let c = apply_call
+        (plane_of output.old output_pitch)
+        (frames_of (plane_of first.now pitch) (plane_of second.now pitch) time)
+        width height
+        (mask_of still.now still_width) in
+        Told (uncounted (apply_refusal c)) (apply_leaves c) output.new result }
+{
+    host::safeteal_apply(
+        output,
+        output_pitch,
+        first,
+        second,
+        pitch,
+        width,
+        height,
+        still,
+        still_width,
+        time,
+    )
+}
+
+#[unsafe(no_mangle)]
+pub extern "C" fn safeteal_hold(
+    output: &mut [u8],
+    output_pitch: usize,
+    held: &[u8],
+    held_pitch: usize,
+    width: usize,
+    height: usize,
+    mask: &[u8],
+    mask_width: usize,
+) -> u64
+    ensures { let c = hold_call
+        (plane_of output.old output_pitch)
+        (plane_of held.now held_pitch)
+        width height
+        (mask_of mask.now mask_width) in
+        Told (uncounted (hold_refusal c)) (hold_leaves c) output.new result }
+{
+    host::safeteal_hold(
+        output,
+        output_pitch,
+        held,
+        held_pitch,
+        width,
+        height,
+        mask,
+        mask_width,
+    )
+}
+
+#[unsafe(no_mangle)]
+pub extern "C" fn safeteal_stats<'f, 'm>(
+    luma: &mut [f32],
+    chroma1: &mut [f32],
+    chroma2: &mut [f32],
+    pairs: usize,
+    width: usize,
+    height: usize,
+    ratio: usize,
+    first0: &'f [u8],
+    first0_pitch: usize,
+    first1: &'f [u8],
+    first1_pitch: usize,
+    first2: &'f [u8],
+    first2_pitch: usize,
+    second0: &'f [u8],
+    second0_pitch: usize,
+    second1: &'f [u8],
+    second1_pitch: usize,
+    second2: &'f [u8],
+    second2_pitch: usize,
+    forward_x: &'m [u16],
+    forward_y: &'m [u16],
+    backward_x: &'m [u16],
+    backward_y: &'m [u16],
+    grid_width: usize,
+    grid_height: usize,
+    block_width: i32,
+    block_height: i32,
+    origin_x: i32,
+    origin_y: i32,
+    pel: i32,
+) -> u64
+    ensures { let c = stats_call
+        (part_of luma.old chroma1.old chroma2.old pairs)
+        width height ratio
+        (pair_of
+        (plane_of first0.now first0_pitch)
+        (plane_of first1.now first1_pitch)
+        (plane_of first2.now first2_pitch)
+        (plane_of second0.now second0_pitch)
+        (plane_of second1.now second1_pitch)
+        (plane_of second2.now second2_pitch)
+        (motion_by
+        forward_x.now forward_y.now backward_x.now backward_y.now
+        grid_width grid_height block_width block_height origin_x origin_y pel)) in
+        ToldThree (uncounted (stats_refusal c)) (stats_leaves c).luma (stats_leaves c).chroma
+        luma.new chroma1.new chroma2.new result }
+{
+    host::safeteal_stats(
+        luma,
+        chroma1,
+        chroma2,
+        pairs,
+        width,
+        height,
+        ratio,
+        first0,
+        first0_pitch,
+        first1,
+        first1_pitch,
+        first2,
+        first2_pitch,
+        second0,
+        second0_pitch,
+        second1,
+        second1_pitch,
+        second2,
+        second2_pitch,
+        forward_x,
+        forward_y,
+        backward_x,
+        backward_y,
+        grid_width,
+        grid_height,
+        block_width,
+        block_height,
+        origin_x,
+        origin_y,
+        pel,
+    )
+}
+
+#[unsafe(no_mangle)]
+pub extern "C" fn safeteal_assemble(
+    width: usize,
+    height: usize,
+    ratio: usize,
+    models: &[f32],
+    cover: &[u8],
+    luma: &mut [i16],
+    chroma1: &mut [i16],
+    chroma2: &mut [i16],
+) -> u64
+    ensures { let c = assemble_call
+        width height ratio
+        models.now
+        cover.now
+        (fit_of luma.old chroma1.old chroma2.old) in
+        ToldThree (uncounted (assemble_refusal c)) (assemble_leaves c).luma (assemble_leaves c).chroma
+        luma.new chroma1.new chroma2.new result }
+{
+    host::safeteal_assemble(width, height, ratio, models, cover, luma, chroma1, chroma2)
+}
+
+// `before`, `pairs` and `after` are the pairs of the previous, own and next part. What the work slices (models, kept,
+// cover) hold after acceptance is left free: alone of all slices here.
+#[unsafe(no_mangle)]
+pub extern "C" fn safeteal_fit<'s>(
+    previous: &'s [f32],
+    previous1: &'s [f32],
+    previous2: &'s [f32],
+    before: usize,
+    own: &'s [f32],
+    own1: &'s [f32],
+    own2: &'s [f32],
+    pairs: usize,
+    next: &'s [f32],
+    next1: &'s [f32],
+    next2: &'s [f32],
+    after: usize,
+    width: usize,
+    height: usize,
+    limit: f32,
+    evidence: f32,
+    strict: bool,
+    ratio: usize,
+    models: &mut [f32],
+    kept: &mut [u8],
+    cover: &mut [u8],
+    luma: &mut [i16],
+    chroma1: &mut [i16],
+    chroma2: &mut [i16],
+) -> u64
+    ensures { let c = fit_call
+        (parts_of
+        (part_of previous.now previous1.now previous2.now before)
+        (part_of own.now own1.now own2.now pairs)
+        (part_of next.now next1.now next2.now after))
+        width height ratio
+        limit evidence strict
+        models.old kept.old cover.old
+        (fit_of luma.old chroma1.old chroma2.old) in
+        ToldThree (uncounted (fit_refusal c)) (fit_leaves c).luma (fit_leaves c).chroma
+        luma.new chroma1.new chroma2.new result
+        × WorkStays c models.new kept.new cover.new }
+{
+    host::safeteal_fit(
+        previous, previous1, previous2, before, own, own1, own2, pairs, next, next1, next2, after,
+        width, height, limit, evidence, strict, ratio, models, kept, cover, luma, chroma1, chroma2,
+    )
+}
+
+#[unsafe(no_mangle)]
+pub extern "C" fn safeteal_peel<'b>(
+    luma: &'b [u8],
+    chroma1: &'b [u8],
+    chroma2: &'b [u8],
+    luma_pitch: usize,
+    chroma_pitch: usize,
+    width: usize,
+    height: usize,
+    ratio: usize,
+    plane: usize,
+    output: &mut [u8],
+    output_pitch: usize,
+    raw: &[u8],
+    raw_pitch: usize,
+) -> u64
+    ensures { let c = peel_call
+        (layer_of
+        (numbers luma.now) (numbers chroma1.now) (numbers chroma2.now)
+        luma_pitch chroma_pitch width height ratio)
+        plane
+        (plane_of output.old output_pitch)
+        (plane_of raw.now raw_pitch) in
+        Told (peel_answer c) (peel_leaves c) output.new result }
+{
+    host::safeteal_peel(
+        luma,
+        chroma1,
+        chroma2,
+        luma_pitch,
+        chroma_pitch,
+        width,
+        height,
+        ratio,
+        plane,
+        output,
+        output_pitch,
+        raw,
+        raw_pitch,
+    )
+}
+
+#[unsafe(no_mangle)]
+pub extern "C" fn safeteal_unpeel<'b, 'f>(
+    luma: &'b [u8],
+    chroma1: &'b [u8],
+    chroma2: &'b [u8],
+    luma_pitch: usize,
+    chroma_pitch: usize,
+    width: usize,
+    height: usize,
+    ratio: usize,
+    plane: usize,
+    output: &mut [u8],
+    output_pitch: usize,
+    first: &'f [u8],
+    first_pitch: usize,
+    second: &'f [u8],
+    second_pitch: usize,
+    time: f32,
+) -> u64
+    ensures { let c = unpeel_call
+        (layer_of
+        (numbers luma.now) (numbers chroma1.now) (numbers chroma2.now)
+        luma_pitch chroma_pitch width height ratio)
+        plane
+        (plane_of output.old output_pitch)
+        (frames_of (plane_of first.now first_pitch) (plane_of second.now second_pitch) time) in
+        Told (unpeel_answer c) (unpeel_leaves c) output.new result }
+{
+    host::safeteal_unpeel(
+        luma,
+        chroma1,
+        chroma2,
+        luma_pitch,
+        chroma_pitch,
+        width,
+        height,
+        ratio,
+        plane,
+        output,
+        output_pitch,
+        first,
+        first_pitch,
+        second,
+        second_pitch,
+        time,
+    )
+}
+
+#[unsafe(no_mangle)]
+pub extern "C" fn safeteal_peel_numbers<'n>(
+    luma: &'n [i16],
+    chroma1: &'n [i16],
+    chroma2: &'n [i16],
+    luma_pitch: usize,
+    chroma_pitch: usize,
+    width: usize,
+    height: usize,
+    ratio: usize,
+    plane: usize,
+    output: &mut [u8],
+    output_pitch: usize,
+    raw: &[u8],
+    raw_pitch: usize,
+) -> u64
+    ensures { let c = peel_call
+        (layer_of
+        luma.now chroma1.now chroma2.now
+        luma_pitch chroma_pitch width height ratio)
+        plane
+        (plane_of output.old output_pitch)
+        (plane_of raw.now raw_pitch) in
+        Told (peel_answer c) (peel_leaves c) output.new result }
+{
+    host::safeteal_peel_numbers(
+        luma,
+        chroma1,
+        chroma2,
+        luma_pitch,
+        chroma_pitch,
+        width,
+        height,
+        ratio,
+        plane,
+        output,
+        output_pitch,
+        raw,
+        raw_pitch,
+    )
+}
+
+#[unsafe(no_mangle)]
+pub extern "C" fn safeteal_unpeel_numbers<'n, 'f>(
+    luma: &'n [i16],
+    chroma1: &'n [i16],
+    chroma2: &'n [i16],
+    luma_pitch: usize,
+    chroma_pitch: usize,
+    width: usize,
+    height: usize,
+    ratio: usize,
+    plane: usize,
+    output: &mut [u8],
+    output_pitch: usize,
+    first: &'f [u8],
+    first_pitch: usize,
+    second: &'f [u8],
+    second_pitch: usize,
+    time: f32,
+) -> u64
+    ensures { let c = unpeel_call
+        (layer_of
+        luma.now chroma1.now chroma2.now
+        luma_pitch chroma_pitch width height ratio)
+        plane
+        (plane_of output.old output_pitch)
+        (frames_of (plane_of first.now first_pitch) (plane_of second.now second_pitch) time) in
+        Told (unpeel_answer c) (unpeel_leaves c) output.new result }
+{
+    host::safeteal_unpeel_numbers(
+        luma,
+        chroma1,
+        chroma2,
+        luma_pitch,
+        chroma_pitch,
+        width,
+        height,
+        ratio,
+        plane,
+        output,
+        output_pitch,
+        first,
+        first_pitch,
+        second,
+        second_pitch,
+        time,
+    )
+}
+
+#[unsafe(no_mangle)]
+pub extern "C" fn safeteal_empty<'n>(
+    luma: &'n [i16],
+    chroma1: &'n [i16],
+    chroma2: &'n [i16],
+    luma_pitch: usize,
+    chroma_pitch: usize,
+    width: usize,
+    height: usize,
+    ratio: usize,
+) -> u64
+    ensures { result ≡ reply_word (empty_answer
+        (layer_of
+        luma.now chroma1.now chroma2.now
+        luma_pitch chroma_pitch width height ratio)) }
+{
+    host::safeteal_empty(
+        luma,
+        chroma1,
+        chroma2,
+        luma_pitch,
+        chroma_pitch,
+        width,
+        height,
+        ratio,
+    )
+}
+
+#[unsafe(no_mangle)]
+pub extern "C" fn safeteal_render<'n, 'f, 'm>(
+    luma: &'n [i16],
+    chroma1: &'n [i16],
+    chroma2: &'n [i16],
+    luma_pitch: usize,
+    chroma_pitch: usize,
+    width: usize,
+    height: usize,
+    ratio: usize,
+    plane: usize,
+    output: &mut [u8],
+    output_pitch: usize,
+    first: &'f [u8],
+    first_pitch: usize,
+    second: &'f [u8],
+    second_pitch: usize,
+    time: f32,
+    forward_x: &'m [u16],
+    forward_y: &'m [u16],
+    backward_x: &'m [u16],
+    backward_y: &'m [u16],
+    grid_width: usize,
+    grid_height: usize,
+    block_width: i32,
+    block_height: i32,
+    origin_x: i32,
+    origin_y: i32,
+    pel: i32,
+    algo: i32,
+) -> u64
+    ensures { let c = render_call
+        (layer_of
+        luma.now chroma1.now chroma2.now
+        luma_pitch chroma_pitch width height ratio)
+        plane
+        (plane_of output.old output_pitch)
+        (frames_of (plane_of first.now first_pitch) (plane_of second.now second_pitch) time)
+        (motion_by
+        forward_x.now forward_y.now backward_x.now backward_y.now
+        grid_width grid_height block_width block_height origin_x origin_y pel)
+        algo in
+        Told (render_answer c) (render_leaves c) output.new result }
+{
+    host::safeteal_render(
+        luma,
+        chroma1,
+        chroma2,
+        luma_pitch,
+        chroma_pitch,
+        width,
+        height,
+        ratio,
+        plane,
+        output,
+        output_pitch,
+        first,
+        first_pitch,
+        second,
+        second_pitch,
+        time,
+        forward_x,
+        forward_y,
+        backward_x,
+        backward_y,
+        grid_width,
+        grid_height,
+        block_width,
+        block_height,
+        origin_x,
+        origin_y,
+        pel,
+        algo,
+    )
+}
+
+#[unsafe(no_mangle)]
+pub extern "C" fn safeteal_parcel_write<'n>(
+    luma: &'n [i16],
+    chroma1: &'n [i16],
+    chroma2: &'n [i16],
+    luma_pitch: usize,
+    chroma_pitch: usize,
+    width: usize,
+    height: usize,
+    ratio: usize,
+    parcel: &mut [u8],
+) -> u64
+    ensures { let c = parcel_write_call
+        (layer_of
+        luma.now chroma1.now chroma2.now
+        luma_pitch chroma_pitch width height ratio)
+        parcel.old in
+        Told (uncounted (parcel_write_refusal c)) (parcel_write_leaves c) parcel.new result }
+{
+    host::safeteal_parcel_write(
+        luma,
+        chroma1,
+        chroma2,
+        luma_pitch,
+        chroma_pitch,
+        width,
+        height,
+        ratio,
+        parcel,
+    )
+}
+
+#[unsafe(no_mangle)]
+pub extern "C" fn safeteal_parcel_read(
+    parcel: &[u8],
+    luma: &mut [i16],
+    chroma1: &mut [i16],
+    chroma2: &mut [i16],
+) -> Sizes
+    ensures { ReadTold
+        (read_by parcel.now luma.old chroma1.old chroma2.old)
+        luma.new chroma1.new chroma2.new result }
+{
+    host::safeteal_parcel_read(parcel, luma, chroma1, chroma2)
+}
+
+#[unsafe(no_mangle)]
+pub extern "C" fn safeteal_parcel_sizes(parcel: &[u8]) -> Sizes
+    ensures { result ≡ parcel_sizes_answer parcel.now }
+{
+    host::safeteal_parcel_sizes(parcel)
+}
+
+#[unsafe(no_mangle)]
+pub extern "C" fn safeteal_walk_start(
+    width: usize,
+    height: usize,
+    ratio: usize,
+    pairs: usize,
+) -> Walked
+    ensures { result ≡ walk_start_answer (width, height) ratio pairs }
+{
+    host::safeteal_walk_start(width, height, ratio, pairs)
+}
+
+// Of the sums, `chroma12` are those of plane 2 in slot 1.
+#[unsafe(no_mangle)]
+pub extern "C" fn safeteal_walk_pair<'f, 'm>(
+    walk: Walk,
+    luma0: &mut [f32],
+    chroma01: &mut [f32],
+    chroma02: &mut [f32],
+    luma1: &mut [f32],
+    chroma11: &mut [f32],
+    chroma12: &mut [f32],
+    luma2: &mut [f32],
+    chroma21: &mut [f32],
+    chroma22: &mut [f32],
+    number: usize,
+    first0: &'f [u8],
+    first0_pitch: usize,
+    first1: &'f [u8],
+    first1_pitch: usize,
+    first2: &'f [u8],
+    first2_pitch: usize,
+    second0: &'f [u8],
+    second0_pitch: usize,
+    second1: &'f [u8],
+    second1_pitch: usize,
+    second2: &'f [u8],
+    second2_pitch: usize,
+    forward_x: &'m [u16],
+    forward_y: &'m [u16],
+    backward_x: &'m [u16],
+    backward_y: &'m [u16],
+    grid_width: usize,
+    grid_height: usize,
+    block_width: i32,
+    block_height: i32,
+    origin_x: i32,
+    origin_y: i32,
+    pel: i32,
+) -> Walked
+    ensures { let c = walk_pair_call walk
+        (slots_of
+        luma0.old chroma01.old chroma02.old
+        luma1.old chroma11.old chroma12.old
+        luma2.old chroma21.old chroma22.old)
+        number
+        (pair_of
+        (plane_of first0.now first0_pitch)
+        (plane_of first1.now first1_pitch)
+        (plane_of first2.now first2_pitch)
+        (plane_of second0.now second0_pitch)
+        (plane_of second1.now second1_pitch)
+        (plane_of second2.now second2_pitch)
+        (motion_by
+        forward_x.now forward_y.now backward_x.now backward_y.now
+        grid_width grid_height block_width block_height origin_x origin_y pel)) in
+        PairTold c
+        (slots_of
+        luma0.new chroma01.new chroma02.new
+        luma1.new chroma11.new chroma12.new
+        luma2.new chroma21.new chroma22.new)
+        result }
+{
+    host::safeteal_walk_pair(
+        walk,
+        luma0,
+        chroma01,
+        chroma02,
+        luma1,
+        chroma11,
+        chroma12,
+        luma2,
+        chroma21,
+        chroma22,
+        number,
+        first0,
+        first0_pitch,
+        first1,
+        first1_pitch,
+        first2,
+        first2_pitch,
+        second0,
+        second0_pitch,
+        second1,
+        second1_pitch,
+        second2,
+        second2_pitch,
+        forward_x,
+        forward_y,
+        backward_x,
+        backward_y,
+        grid_width,
+        grid_height,
+        block_width,
+        block_height,
+        origin_x,
+        origin_y,
+        pel,
+    )
+}
+
+// What the work slices (models, kept, cover) hold after acceptance is left free, as in fit.
+#[unsafe(no_mangle)]
+pub extern "C" fn safeteal_walk_layer<'s>(
+    walk: Walk,
+    luma0: &'s [f32],
+    chroma01: &'s [f32],
+    chroma02: &'s [f32],
+    luma1: &'s [f32],
+    chroma11: &'s [f32],
+    chroma12: &'s [f32],
+    luma2: &'s [f32],
+    chroma21: &'s [f32],
+    chroma22: &'s [f32],
+    limit: f32,
+    evidence: f32,
+    strict: bool,
+    models: &mut [f32],
+    kept: &mut [u8],
+    cover: &mut [u8],
+    luma: &mut [i16],
+    chroma1: &mut [i16],
+    chroma2: &mut [i16],
+) -> Walked
+    ensures { let c = walk_layer_call walk
+        (slots_of
+        luma0.now chroma01.now chroma02.now
+        luma1.now chroma11.now chroma12.now
+        luma2.now chroma21.now chroma22.now)
+        limit evidence strict
+        models.old kept.old cover.old
+        (fit_of luma.old chroma1.old chroma2.old) in
+        LayerTold c
+        models.new kept.new cover.new
+        (fit_of luma.new chroma1.new chroma2.new) result }
+{
+    host::safeteal_walk_layer(
+        walk, luma0, chroma01, chroma02, luma1, chroma11, chroma12, luma2, chroma21, chroma22,
+        limit, evidence, strict, models, kept, cover, luma, chroma1, chroma2,
+    )
+}
+
+// The yes stands in the count's place, as in empty.
+#[unsafe(no_mangle)]
+pub extern "C" fn safeteal_walk_due(walk: Walk) -> u64
+    ensures { result ≡ walk_due_word walk }
+{
+    host::safeteal_walk_due(walk)
+}
+
+// The final rounding and the storing by themselves, for a run over all floats.
+#[unsafe(no_mangle)]
+pub extern "C" fn safeteal_pixel(value: f32) -> u64
+    ensures { result ≡ pixel_of value }
+{
+    host::safeteal_pixel(value)
+}
+
+#[unsafe(no_mangle)]
+pub extern "C" fn safeteal_stored(value: f32, scale: f32) -> i16
+    ensures { result ≡ stored value scale }
+{
+    host::safeteal_stored(value, scale)
+}
