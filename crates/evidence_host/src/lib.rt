@@ -1,6 +1,8 @@
 // Demand 3 held to the exported calls. Its statement and its proof are the crate evidence_calls'; the functions here
 // hold the statement's hypotheses to the calls: each is such a call, and its contract is in the statement's words.
 // Of a `shape` they take the layer's numbers, the pitches and the time; a layer's form and plane 0 go by the function.
+#![tactic(auto)]
+
 ghost use Rattle.calls.specs.Lent.{plane_of, fit_of};
 ghost use Rattle.layer_lent.specs.Lent.{of_numbers, output_by, frames_by};
 ghost use Rattle.motion.specs.Moves.{motion_of};
