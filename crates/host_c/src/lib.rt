@@ -1,5 +1,5 @@
-// The symbols of the C interface, as libhost.a has them. Each export is the function of its name in the crate `host`, and
-// has that function's clauses.
+// The symbols of the C interface, as libhost.a has them. Each export is the function of its name in the crate `host`,
+// and has that function's clauses.
 #![tactic(auto)]
 
 ghost use Rattle.std.specs.Prelude.{◌≡◌};
