@@ -1,6 +1,8 @@
 // "Refusal 8 is shown never to occur" (02), held to the exported calls: each function here is such a call, lent
 // anything at all, and its contract is that its answer's number is not 8. The theorem is the crate answers'. Numbers
 // that belong together are lent as one struct; of a `shape` a call takes what it is lent itself.
+#![tactic(auto)]
+
 ghost use Rattle.answers.specs.Never.{NotAnswered};
 
 use layer_lent::Shape;

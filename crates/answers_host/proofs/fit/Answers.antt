@@ -1,0 +1,7 @@
+-- What is left of `answers_host::fit`: its answer is the rules', which is never 8.
+use Rattle.answers.proofs.Never.{never_eight}
+use Rattle.answers_host.proofs.Other.{three}
+use Rattle.answers_host.proofs.fit.Goals as goal
+
+pub returns : goal.returns
+returns c = three c.fit.ensures (never_eight.fit _)

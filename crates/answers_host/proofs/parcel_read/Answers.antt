@@ -1,0 +1,8 @@
+-- What is left of `answers_host::parcel_read`: its answer is the rules', which is never 8.
+use Rattle.std.proofs.Common.{refl}
+use Rattle.answers.proofs.Never.{never_eight}
+use Rattle.answers_host.proofs.Other.{sizes}
+use Rattle.answers_host.proofs.parcel_read.Goals as goal
+
+pub returns : goal.returns
+returns c = sizes _ _ _ c.safeteal_parcel_read.ensures.told refl (never_eight.parcel_read _)
