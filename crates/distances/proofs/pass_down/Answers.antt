@@ -1,3 +1,4 @@
+-- What is left to answer of `distances::pass_down`'s goals.
 use mathlib.Core.Path.{◌≡◌}
 use Prim.Native.Nat.{◌-◌}
 use native.Mathlib.Nat.{div-mul-le_self}

@@ -1,3 +1,4 @@
+-- What is left to answer of `distances::row_back`'s goals.
 use mathlib.Core.Path.{◌≡◌, refl, sym}
 use Prim.Native.Nat.{◌+◌, ◌-◌}
 use native.Mathlib.Nat.{add-zero}

@@ -1,3 +1,4 @@
+-- What is left to answer of `still_cells::byte_sum`'s goals.
 use mathlib.Core.Path.{refl, ◌∙◌}
 use native.Mathlib.Numerals.{add-one}
 use native.Mathlib.Omega.{arith}

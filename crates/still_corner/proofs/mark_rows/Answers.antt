@@ -1,3 +1,4 @@
+-- What is left to answer of `still_corner::mark_rows`'s goals.
 use mathlib.Core.Path.{refl, ◌∙◌}
 use native.Mathlib.Omega.{arith}
 use Rattle.still_corner.proofs.Marks.{no_row, rows_marked}

@@ -1,3 +1,4 @@
+-- What is left to answer of `still_rows::hold_row`'s goals.
 use mathlib.Core.Path.{refl}
 use native.Mathlib.Omega.{arith}
 use lib.ListN.{length-set}

@@ -1,3 +1,4 @@
+-- What is left to answer of `still_rows::rows`'s goals.
 use mathlib.Core.Path.{refl, ◌∙◌}
 use native.Mathlib.Omega.{arith}
 use Rattle.still_pass.proofs.Pass.{rows_none, rows_more}

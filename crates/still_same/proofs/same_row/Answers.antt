@@ -1,3 +1,4 @@
+-- What is left to answer of `still_same::same_row`'s goals.
 use mathlib.Core.Path.{◌≡◌, refl, ◌∙◌}
 use Prim.Native.Nat.{◌+◌, ◌-◌}
 use native.Mathlib.Nat.{le_antisymm}

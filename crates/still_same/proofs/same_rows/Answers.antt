@@ -1,3 +1,4 @@
+-- What is left to answer of `still_same::same_rows`'s goals.
 use mathlib.Core.Path.{refl, ◌∙◌}
 use native.Mathlib.Omega.{arith}
 use Rattle.still_pass.proofs.Tables.{rows_none, rows_more}
