@@ -25,9 +25,17 @@ fn main() {
 fn made() -> PathBuf {
     let host = host();
     let root = host.parent().expect("the folder host stands in the root");
-    println!("cargo:rerun-if-changed={}", root.join("crates.txt").display());
+    println!(
+        "cargo:rerun-if-changed={}",
+        root.join("crates.txt").display()
+    );
     // What a check keeps in a crate's folder `out` is no source.
-    for folder in root.join("crates").read_dir().expect("the crates").flatten() {
+    for folder in root
+        .join("crates")
+        .read_dir()
+        .expect("the crates")
+        .flatten()
+    {
         for part in ["src", "specs", "proofs"] {
             let source = folder.path().join(part);
             if source.is_dir() {
@@ -44,11 +52,12 @@ fn prove(root: &Path) {
     let run = Command::new(root.join("tools/library")).output();
     match run {
         Err(error) => stop(&format!(
-            "tools/library could not be started ({error}).\n\
-             Install the Rattle kit so that `rt` is on the PATH, or set SAFETEAL_LIB to a folder with a finished libhost.a."
+            "the script tools/library could not be started ({error}).\n\
+             To do without it, set SAFETEAL_LIB to a folder with a finished libhost.a."
         )),
         Ok(run) if !run.status.success() => stop(&format!(
-            "`tools/library` failed ({}):\n{}{}",
+            "`tools/library` failed ({}):\n{}{}\
+             To do without it, set SAFETEAL_LIB to a folder with a finished libhost.a.",
             run.status,
             String::from_utf8_lossy(&run.stdout),
             String::from_utf8_lossy(&run.stderr)

@@ -169,11 +169,16 @@ fn structs(text: &str, before: &str, end: char, field: impl Fn(&str) -> String) 
 #[test]
 fn the_structs_are_those_that_are_proved() {
     let text = read(&package().join("../../crates/rules/src/lib.rt"));
-    let proved = structs(&text, "#[repr(C)]\n#[derive(Clone, Copy)]\npub struct ", ',', |text| {
-        let text = text.strip_prefix("pub ").expect("a field that is seen");
-        let (name, of) = text.split_once(": ").expect("a name and a type");
-        format!("{of} {name}")
-    });
+    let proved = structs(
+        &text,
+        "#[repr(C)]\n#[derive(Clone, Copy)]\npub struct ",
+        ',',
+        |text| {
+            let text = text.strip_prefix("pub ").expect("a field that is seen");
+            let (name, of) = text.split_once(": ").expect("a name and a type");
+            format!("{of} {name}")
+        },
+    );
     assert_eq!(proved.len(), 3, "{proved:?}");
     assert_eq!(lists(safeteal::ffi::STRUCTS), proved, "in src/ffi.rs");
     let header = structs(&expanded(), "struct safeteal_", ';', parameter);
