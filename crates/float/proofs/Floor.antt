@@ -8,6 +8,7 @@ use mathlib.Core.Bool.{Bool, true, false, not, cond, true≢false}
 use lib.IntN.{ℤ, pos, negsuc}
 use lib.Dec.{T, ltb, ltb→lt, le→leb, lit<, lit≤}
 use lib.Pow.{pow_pos, pow_mono}
+use mir.Val.{bool_byte}
 use lib.Ieee.{Float, nan, inf, fin, binary32, up, down, size, units, round, sum, add, sub, neg, lt, is_nan, of_int, to_unsigned, in_unsigned, in_float}
 use lib.Ieee.Digits.{size-lt, size-le}
 use lib.Ieee.Fits.{core, round_is, nearest-le, down_pos}
@@ -157,10 +158,10 @@ number x w F =
     (subst (λ (y : Float). T (in_unsigned binary32 32 y)) (sym F.is) b.0, ap (λ (y : Float). to_unsigned 32 y) F.is ∙ b.1)
 
 -- the number that is left, less one where it is too large
-pub taken : (x w : Float) (F : Floored x w) → (cond (lt x w) 1 0 ≤ to_unsigned 32 w) × (to_unsigned 32 w - cond (lt x w) 1 0 ≡ to_unsigned 64 x)
+pub taken : (x w : Float) (F : Floored x w) → (bool_byte (lt x w) ≤ to_unsigned 32 w) × (to_unsigned 32 w - bool_byte (lt x w) ≡ to_unsigned 64 x)
 taken x w F = go (lt x w) F.more F.same
   where
     go : (b : Bool) → (b ≡ true → F.r ≡ suc (to_unsigned 64 x)) → (b ≡ false → F.r ≡ to_unsigned 64 x)
-        → (cond b 1 0 ≤ to_unsigned 32 w) × (to_unsigned 32 w - cond b 1 0 ≡ to_unsigned 64 x)
+        → (bool_byte b ≤ to_unsigned 32 w) × (to_unsigned 32 w - bool_byte b ≡ to_unsigned 64 x)
     go true f g = let n = (number x w F).1 in let m = f refl in (omega arith, omega arith)
     go false f g = let n = (number x w F).1 in let m = g refl in (omega arith, omega arith)

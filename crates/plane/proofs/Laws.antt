@@ -10,16 +10,15 @@ use native.Mathlib.Nat.{mul_comm, le-div_iff_mul-le, mul-div_cancel, mul-mod_lef
 use borrow.Author.Tests.{leb-true, le-leb, eqb-true, eqb-false, eq-eqb, ne_eqb}
 use lib.Dec.{leb, eqb}
 use lib.ListN.{get_or, set}
-use Rattle.plane.specs.declared.Change.{Change}
-use Rattle.plane.specs.declared.Change.TheVariants.{Keep, Put}
+use Rattle.std.specs.Prelude.{Option, Some, None}
 use Rattle.rules.specs.Forms.{Rule, turns, scan_row, scan, stroke, tally, painted, counted}
 use Rattle.plane.specs.Done.{change, stamped, tallied, Stamped, RowDone, RowsDone}
 
 -- ---- one pixel
 
-pub tallied_few : (d : Change) (n : ℕ) → tallied d n ≤ n + 1
-tallied_few Keep n = omega arith
-tallied_few (Put b) n = omega arith
+pub tallied_few : (d : Option ℕ) (n : ℕ) → tallied d n ≤ n + 1
+tallied_few None n = omega arith
+tallied_few (Some b) n = omega arith
 
 -- a pixel is changed, and counted, as its rule says
 stamped-change : (rule : Rule) (pitch x y : ℕ) (bytes : List ℕ)
@@ -27,7 +26,7 @@ stamped-change : (rule : Rule) (pitch x y : ℕ) (bytes : List ℕ)
 unfolding change stroke
 stamped-change rule pitch x y bytes = go (rule.writes x y) (rule.byte x y (get_or bytes (y * pitch + x) 0))
   where
-    go : (b : Bool) (v : ℕ) → stamped (cond b (Put v) Keep) (y * pitch + x) bytes ≡ cond b (set bytes (y * pitch + x) v) bytes
+    go : (b : Bool) (v : ℕ) → stamped (cond b (Some v) None) (y * pitch + x) bytes ≡ cond b (set bytes (y * pitch + x) v) bytes
     go true v = refl
     go false v = refl
 
@@ -35,7 +34,7 @@ tallied-change : (rule : Rule) (x y old n : ℕ) → tallied (change rule x y ol
 unfolding change tally
 tallied-change rule x y old n = go (rule.writes x y) (rule.byte x y old)
   where
-    go : (b : Bool) (k : ℕ) → tallied (cond b (Put k) Keep) n ≡ cond b (n + 1) n
+    go : (b : Bool) (k : ℕ) → tallied (cond b (Some k) None) n ≡ cond b (n + 1) n
     go true k = refl
     go false k = refl
 
@@ -47,18 +46,18 @@ unfolding turns scan_row
 row_none rule pitch y count bytes = record { bytes = refl; tally = refl; few = omega arith }
 
 -- one pixel more, of the byte that stands there now
-pub row_more : {rule : Rule} {pitch y x count : ℕ} {before bytes after : List ℕ} {n r : ℕ} {d : Change}
+pub row_more : {rule : Rule} {pitch y x count : ℕ} {before bytes after : List ℕ} {n r : ℕ} {d : Option ℕ}
     → RowDone rule pitch y x count before bytes n → d ≡ change rule x y (get_or bytes (y * pitch + x) 0) → Stamped bytes (y * pitch + x) d n after r
     → RowDone rule pitch y (x + 1) count before after r
 unfolding turns scan_row
 row_more {rule} {pitch} {y} {x} {bytes = bytes} {n = n} {d = d} done e s =
     record {
-      bytes = s.bytes ∙ ap (λ (k : Change). stamped k (y * pitch + x) bytes) e ∙ stamped-change rule pitch x y bytes ∙ simp (done.bytes, add-one);
-      tally = s.tally ∙ ap (λ (k : Change). tallied k n) e ∙ tallied-change rule x y (get_or bytes (y * pitch + x) 0) n ∙ simp (done.tally, add-one);
+      bytes = s.bytes ∙ ap (λ (k : Option ℕ). stamped k (y * pitch + x) bytes) e ∙ stamped-change rule pitch x y bytes ∙ simp (done.bytes, add-one);
+      tally = s.tally ∙ ap (λ (k : Option ℕ). tallied k n) e ∙ tallied-change rule x y (get_or bytes (y * pitch + x) 0) n ∙ simp (done.tally, add-one);
       few = omega (arith, tallied_few d n);
     }
 
-keep_change : (rule : Rule) (x y old : ℕ) → rule.writes x y ≡ false → Keep ≡ change rule x y old
+keep_change : (rule : Rule) (x y old : ℕ) → rule.writes x y ≡ false → None ≡ change rule x y old
 unfolding change
 keep_change rule x y old e = sym (simp e)
 
@@ -66,7 +65,7 @@ keep_change rule x y old e = sym (simp e)
 pub row_skip : {rule : Rule} {pitch y x count : ℕ} {before bytes : List ℕ} {n : ℕ}
     → RowDone rule pitch y x count before bytes n → rule.writes x y ≡ false → RowDone rule pitch y (x + 1) count before bytes n
 row_skip {rule} {pitch} {y} {x} {bytes = bytes} done e =
-    row_more {d = Keep} done (keep_change rule x y (get_or bytes (y * pitch + x) 0) e) (record { bytes = refl; tally = refl })
+    row_more {d = None} done (keep_change rule x y (get_or bytes (y * pitch + x) 0) e) (record { bytes = refl; tally = refl })
 
 -- and so is a run of them
 pub row_skip_run : {rule : Rule} {pitch y x count : ℕ} {before bytes : List ℕ} {n : ℕ} (more : ℕ)

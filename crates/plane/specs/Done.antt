@@ -1,25 +1,23 @@
 -- What the loops of a pass leave: one pixel, the first pixels of a row, the first rows.
-use Rattle.std.specs.Prelude.{◌≡◌, cond, List, ℕ, ◌+◌, ◌*◌, ◌≤◌, set}
-use Rattle.plane.specs.declared.Change.{Change}
-use Rattle.plane.specs.declared.Change.TheVariants.{Keep, Put}
+use Rattle.std.specs.Prelude.{◌≡◌, cond, List, ℕ, ◌+◌, ◌*◌, ◌≤◌, set, Option, Some, None}
 use Rattle.rules.specs.Forms.{Rule, scan_row, stroke, tally, painted, counted}
 
--- what a rule does to one pixel
-unfoldable pub change : Rule → (x y old : ℕ) → Change
-change rule x y old = cond (rule.writes x y) (Put (rule.byte x y old)) Keep
+-- what a rule does to one pixel: the byte that it writes, if it writes one
+unfoldable pub change : Rule → (x y old : ℕ) → Option ℕ
+change rule x y old = cond (rule.writes x y) (Some (rule.byte x y old)) None
 
--- the bytes with a change at place k
-abbrev pub stamped : Change → ℕ → List ℕ → List ℕ
-stamped Keep k bytes = bytes
-stamped (Put b) k bytes = set bytes k b
+-- the bytes with that at place k
+abbrev pub stamped : Option ℕ → ℕ → List ℕ → List ℕ
+stamped None k bytes = bytes
+stamped (Some b) k bytes = set bytes k b
 
--- one more, if it is a `Put`
-abbrev pub tallied : Change → ℕ → ℕ
-tallied Keep n = n
-tallied (Put b) n = n + 1
+-- one more, if it is a byte
+abbrev pub tallied : Option ℕ → ℕ → ℕ
+tallied None n = n
+tallied (Some b) n = n + 1
 
 -- one pixel is changed and counted
-pub record Stamped (before : List ℕ) (k : ℕ) (d : Change) (count : ℕ) (after : List ℕ) (r : ℕ) : Type 0 where
+pub record Stamped (before : List ℕ) (k : ℕ) (d : Option ℕ) (count : ℕ) (after : List ℕ) (r : ℕ) : Type 0 where
   pub bytes : after ≡ stamped d k before
   pub tally : r ≡ tallied d count
 

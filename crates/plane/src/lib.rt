@@ -2,44 +2,38 @@
 // pass.
 #![tactic(auto)]
 
-ghost use Rattle.std.specs.Prelude.{◌≡◌, ◌&&◌, ◌||◌, not, cond, ◌+◌, ◌-◌, ◌*◌, ◌/◌, ◌%◌, ◌<◌, ◌≤◌, ◌^◌, min, leb, eqb, length};
+ghost use Rattle.std.specs.Prelude.{◌≡◌, ◌&&◌, ◌||◌, not, cond, ◌+◌, ◌-◌, ◌*◌, ◌/◌, ◌%◌, ◌<◌, ◌≤◌, ◌^◌, min, leb, eqb, length, true, false, MatchResult};
 ghost use Rattle.rules.specs.Float.{within as within_of};
 ghost use Rattle.rules.specs.Domain.{is_size, are_sizes, is_ratio, is_pitch, is_time};
 ghost use Rattle.plane.specs.Done.{Stamped};
 
-// What a rule does to one pixel: it keeps its byte, or a byte is put in its place.
-#[derive(Drop)]
-pub enum Change {
-    Keep,
-    Put(u8),
-}
+use rules::Refusal;
 
-// One pixel of a pass: changes place k of the output, and counts it.
-pub fn stamp(output: &mut [u8], k: usize, d: Change, count: usize) -> usize
-    requires { (k < length output.old) × (count < 2 ^ 63) }
-    ensures { Stamped output.old k d count output.new result }
+// One pixel of a pass: where a rule gives a byte, it stands at place k of the output, and is counted.
+pub fn stamp(output: &mut [u8], k: usize, byte: Option<u8>, count: usize) -> usize
+    requires place { k < length output.old }
+    requires few { count < 2 ^ 63 }
+    ensures { Stamped output.old k byte count output.new result }
 {
-    match d {
-        Change::Put(b) => {
-            output[k] = b;
-            count + 1
-        }
-        Change::Keep => count,
-    }
+    let Some(byte) = byte else {
+        return count;
+    };
+    output[k] = byte;
+    count + 1
 }
 
 // A width or a height.
 pub fn sized(n: usize) -> bool
     ensures { result ≡ is_size n }
 {
-    1 <= n && n <= 4096
+    (1..=4096).contains(&n)
 }
 
 // A width and a height.
 pub fn sizes(width: usize, height: usize) -> bool
     ensures { result ≡ are_sizes (width, height) }
 {
-    both(sized(width), sized(height))
+    sized(width) & sized(height)
 }
 
 // A pitch that rows of this width can have.
@@ -53,7 +47,7 @@ pub fn pitched(pitch: usize, width: usize) -> bool
 pub fn within(x: f32, lo: f32, hi: f32) -> bool
     ensures { result ≡ within_of x lo hi }
 {
-    both(lo <= x, x <= hi)
+    (lo <= x) & (x <= hi)
 }
 
 // A time from 0 to 1.
@@ -90,8 +84,8 @@ pub fn bit(b: bool) -> u8
     if b { 1 } else { 0 }
 }
 
-// One of two bytes, without a branch of the caller's own.
-pub fn chosen(yes: bool, new: u8, old: u8) -> u8
+// One of two values, without a branch of the caller's own.
+pub fn chosen<T: Drop>(yes: bool, new: T, old: T) -> T
     ensures { result ≡ cond yes new old }
 {
     if yes { new } else { old }
@@ -102,7 +96,14 @@ pub fn after(k: usize, size: usize) -> usize
     requires { k < size }
     ensures { (result ≡ min (k + 1) (size - 1)) × (result < size) }
 {
-    if k + 1 < size { k + 1 } else { size - 1 }
+    (k + 1).min(size - 1)
+}
+
+// A row of a table of refusals: the call is refused unless all is right.
+pub fn ensure(right: bool, refusal: Refusal) -> Result<(), Refusal>
+    ensures { MatchResult result (λ _. right ≡ true) (λ e. (right ≡ false) × (e ≡ refusal)) }
+{
+    if right { Ok(()) } else { Err(refusal) }
 }
 
 // A row of a table of refusals: its number unless all is right, else what the rows after it say.
@@ -116,44 +117,38 @@ pub fn unless(number: u8, right: bool, rest: u8) -> u8
 pub fn divided(n: usize, by: usize) -> usize
     ensures { result ≡ n / by }
 {
-    if by == 0 {
-        return 0;
+    match by {
+        0 => 0,
+        1 => n,
+        2 => n / 2,
+        _ => n / by,
     }
-    if by == 1 {
-        return n;
-    }
-    if by == 2 { n / 2 } else { n / by }
 }
 
 // The divisor goes into n, and 0 into 0 alone.
 pub fn divides(by: usize, n: usize) -> bool
     ensures { result ≡ eqb (n % by) 0 }
 {
-    if by == 0 {
-        return n == 0;
+    match by {
+        0 => n == 0,
+        1 => true,
+        2 => n % 2 == 0,
+        _ => n % by == 0,
     }
-    if by == 1 {
-        return true;
-    }
-    if by == 2 { n % 2 == 0 } else { n % by == 0 }
 }
 
 // One of the three ratios.
 pub fn one_of(ratio: usize) -> bool
     ensures { result ≡ (eqb ratio 1 || eqb ratio 2 || eqb ratio 4) }
 {
-    if ratio == 1 {
-        true
-    } else {
-        if ratio == 2 { true } else { ratio == 4 }
-    }
+    matches!(ratio, 1 | 2 | 4)
 }
 
 // A ratio of these sizes.
 pub fn ratioed(ratio: usize, width: usize, height: usize) -> bool
     ensures { result ≡ is_ratio ratio (width, height) }
 {
-    all(one_of(ratio), divides(ratio, width), divides(ratio, height))
+    one_of(ratio) & divides(ratio, width) & divides(ratio, height)
 }
 
 // A slice of this length has so many rows a pitch apart and `more` entries after them. No product wraps.
@@ -198,7 +193,7 @@ pub fn is_product(n: usize, a: usize, b: usize) -> bool
     if b == 0 {
         n == 0
     } else {
-        both(divides(b, n), n / b == a)
+        divides(b, n) & (n / b == a)
     }
 }
 
@@ -209,7 +204,7 @@ pub fn exact(size: usize, many: usize, width: usize, height: usize) -> bool
     if many == 0 {
         size == 0
     } else {
-        both(divides(many, size), is_product(size / many, width, height))
+        divides(many, size) & is_product(size / many, width, height)
     }
 }
 
@@ -227,11 +222,9 @@ pub fn exact_planes(
 {
     let across = divided(width, ratio);
     let down = divided(height, ratio);
-    all(
-        exact(luma, many, width, height),
-        exact(chroma1, 2, across, down),
-        exact(chroma2, 2, across, down),
-    )
+    exact(luma, many, width, height)
+        & exact(chroma1, 2, across, down)
+        & exact(chroma2, 2, across, down)
 }
 
 // The ratio of a plane of a layer.

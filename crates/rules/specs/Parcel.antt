@@ -1,6 +1,6 @@
 -- 02, "W-201. Layers sent between desks.": a parcel of bytes, what its writer gives, what its reader tests and leaves.
 use Rattle.std.specs.Prelude.{◌&&◌, ◌∷◌, ◌++◌, ◌+◌, ◌-◌, ◌*◌, ◌/◌, ◌%◌}
-use Rattle.rules.specs.Words.{Bool, true, false, cond, not, List, [], ℕ, zero, suc, leb, ltb, eqb, ℤ, pos, negsuc, neg_ℤ, length, get_or, take, drop, Sizes}
+use Rattle.rules.specs.Words.{Bool, false, cond, List, [], ℕ, zero, suc, leb, ltb, eqb, ℤ, pos, negsuc, neg_ℤ, length, get_or, take, drop, Sizes}
 use Rattle.rules.specs.Forms.{Fit, Layer, tabulate, all, each, area, shrunk, cells, uncounted, leaves}
 use Rattle.rules.specs.Calls.{ParcelWriteCall, ParcelReadCall}
 use Rattle.rules.specs.Domain.{cover_length, are_sizes, is_ratio, is_fit, spans}

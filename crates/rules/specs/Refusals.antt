@@ -1,12 +1,47 @@
 -- "Domain", its table: the rows of each call, "checked in this order". Rows that a call does not have are left out, and
 -- the last one altogether: 02 takes it away.
-use Rattle.std.specs.Prelude.{◌&&◌, ◌||◌, ◌∷◌}
-use Rattle.rules.specs.Words.{Bool, cond, not, List, [], ℕ, leb, eqb, length}
+use Rattle.std.specs.Prelude.{◌&&◌, ◌||◌, ◌∷◌, Result, Ok, Err}
+use Rattle.rules.specs.declared.Refusal.{Refusal}
+use Rattle.rules.specs.declared.Refusal.TheVariants.{Size, Ratio, Pitch, Length, Movement, Setting, Pairs, Cut, Kind, Payload, Turn}
+use Rattle.rules.specs.Words.{Bool, false, cond, not, List, [], ℕ, leb, eqb, length, Answer, Reply}
 use Rattle.rules.specs.Literals.{0·0, 0·5, 255·0, 65536·0}
 use Rattle.rules.specs.Float.{within}
 use Rattle.rules.specs.Forms.{Plane, Motion, Pair, Part, Layer, shrunk, plane_size}
 use Rattle.rules.specs.Calls.{StatsCall, FitCall, AssembleCall, DistancesCall, PeelCall, UnpeelCall, RenderCall, ParcelWriteCall, MaskCall, ApplyCall, HoldCall}
 use Rattle.rules.specs.Domain.{kept_length, mask_length, parcel_length, are_sizes, is_ratio, have_pitches, have_lengths, are_sums, is_fit, are_models, is_cover, layer_pitches, layer_lengths, motion_lengths, motion_numbers, is_time, are_steps}
+
+-- the number of each refusal; 9 to 12 are the requests' "New numbers"
+abbrev pub number_of : Refusal → ℕ
+number_of Size = 1
+number_of Ratio = 2
+number_of Pitch = 3
+number_of Length = 4
+number_of Movement = 5
+number_of Setting = 6
+number_of Pairs = 7
+number_of Cut = 9
+number_of Kind = 10
+number_of Payload = 11
+number_of Turn = 12
+
+-- the number that a call answers, or else `rest`
+abbrev pub number_or : {A : Type 0} → Result A Refusal → (rest : ℕ) → ℕ
+number_or (Ok a) rest = rest
+number_or (Err r) rest = number_of r
+
+-- the number that a call answers, 0 where it is accepted
+abbrev pub numbered : {A : Type 0} → Result A Refusal → ℕ
+numbered r = number_or r 0
+
+-- with its count: "A refusal's answer is its number with count 0."
+abbrev pub answered : Result ℕ Refusal → Answer
+answered (Ok count) = record { number = 0; count = count }
+answered (Err r) = record { number = number_of r; count = 0 }
+
+-- with a yes or no besides
+abbrev pub replied : Result Bool Refusal → Reply
+replied (Ok answer) = record { answer = record { number = 0; count = 0 }; yes = answer }
+replied (Err r) = record { answer = record { number = number_of r; count = 0 }; yes = false }
 
 -- a row: the number, and whether it fits; a number may have several rows, and a row several tests
 infix 20 ◌unless◌

@@ -1,4 +1,8 @@
 // The types of the paper. What is right of them is said in specs/, heading by heading.
+#![tactic(auto)]
+
+ghost use Rattle.std.specs.Prelude.{◌≡◌};
+ghost use Rattle.rules.specs.Refusals.{number_of};
 
 // "a gain and an offset, a pair of floats kept together"
 #[derive(Clone, Copy)]
@@ -35,6 +39,53 @@ pub struct Offset(pub i16);
 pub enum Scene {
     Lifted(f32),
     Raw(f32),
+}
+
+// Why a call is refused. Each has its number in the table of "Domain", or among the new numbers of the requests.
+#[derive(Clone, Copy)]
+pub enum Refusal {
+    // a width, a height or a plane's number
+    Size,
+    // a ratio, or a mask's steps
+    Ratio,
+    // a pitch
+    Pitch,
+    // a slice's length
+    Length,
+    // a number of a motion
+    Movement,
+    // a time, or a setting of fit
+    Setting,
+    // a number of pairs
+    Pairs,
+    // a record of a parcel that is cut short
+    Cut,
+    // the kinds of a parcel's records
+    Kind,
+    // a parcel's head, or the length of a payload
+    Payload,
+    // a pair or a layer whose turn it isn't
+    Turn,
+}
+
+impl From<Refusal> for u8 {
+    ghost from_gives = { λ refusal number. number ≡ number_of refusal };
+
+    fn from(refusal: Refusal) -> u8 {
+        match refusal {
+            Refusal::Size => 1,
+            Refusal::Ratio => 2,
+            Refusal::Pitch => 3,
+            Refusal::Length => 4,
+            Refusal::Movement => 5,
+            Refusal::Setting => 6,
+            Refusal::Pairs => 7,
+            Refusal::Cut => 9,
+            Refusal::Kind => 10,
+            Refusal::Payload => 11,
+            Refusal::Turn => 12,
+        }
+    }
 }
 
 // What a call answers: the number of its refusal, or 0; and the count of the pixels written.

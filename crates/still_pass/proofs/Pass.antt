@@ -1,13 +1,16 @@
 -- A pass that stores each pixel leaves what its rule paints; a call is refused, or runs. Assumes nothing.
-use mathlib.Core.Path.{◌≡◌, refl, ap, ◌∙◌}
+use mathlib.Core.Path.{◌≡◌, refl, sym, ap, ◌∙◌}
 use mathlib.Core.Bool.{Bool, true, false, cond}
 use mathlib.Core.List.{List}
 use Prim.Native.Nat.{ℕ, ◌+◌, ◌*◌}
 use native.Mathlib.Numerals.{add-one}
-use borrow.Author.Tests.{ne_eqb}
 use lib.ListN.{get_or, set}
 use lib.Seq.{set-get_or}
 use Rattle.rules.specs.Forms.{Rule, turns, scan_row, scan, stroke, painted, leaves}
+use Rattle.rules.specs.Refusals.{number_of}
+use Rattle.rules.specs.declared.Refusal.{Refusal}
+use Rattle.std.specs.Prelude.{Ok, Err}
+use Rattle.laws.proofs.Answered.{stays, goes}
 use Rattle.still_pass.specs.Pass.{put, RowPainted, RowsPainted, Passed}
 
 -- a pixel that the rule does not write is stored as it was
@@ -45,9 +48,9 @@ rows_more done row = record { bytes = simp (row.bytes, done.bytes, add-one) }
 
 -- ---- a call, by its number
 
-module _ (number : ℕ) (new old : List ℕ) (r : ℕ) (e : r ≡ number) where
-  pub refused : (r ≡ 0 → ⊥) → Passed number (leaves number new old) old (record { number = r; count = 0 })
-  refused some = let t = ne_eqb r 0 some in record { answer = simp (← e, t); bytes = simp (← e, t) }
+module _ (number : ℕ) (new old : List ℕ) where
+  pub refused : (r : Refusal) → number_of r ≡ number → Passed number (leaves number new old) old (Err r)
+  refused r e = record { answer = e; bytes = sym (stays r number new old e) }
 
-  pub ran : (output : List ℕ) → r ≡ 0 → output ≡ new → Passed number (leaves number new old) output (record { number = 0; count = 0 })
-  ran output z done = record { answer = simp (← e, z); bytes = simp (← e, z, done) }
+  pub ran : (output : List ℕ) → 0 ≡ number → output ≡ new → Passed number (leaves number new old) output (Ok tt)
+  ran output z done = record { answer = z; bytes = done ∙ sym (goes number new old z) }

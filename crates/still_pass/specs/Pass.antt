@@ -1,7 +1,8 @@
 -- A pass that stores each pixel, and a call without a count: what they leave, and what they ask.
-use Rattle.std.specs.Prelude.{◌≡◌, cond, List, ℕ, ◌+◌, ◌-◌, ◌*◌, ◌≤◌, ◌<◌, length}
-use Rattle.rules.specs.declared.Answer.{Answer}
-use Rattle.rules.specs.Forms.{Rule, scan_row, stroke, painted, uncounted}
+use Rattle.std.specs.Prelude.{◌≡◌, cond, List, ℕ, ◌+◌, ◌-◌, ◌*◌, ◌≤◌, ◌<◌, length, Result}
+use Rattle.rules.specs.declared.Refusal.{Refusal}
+use Rattle.rules.specs.Forms.{Rule, scan_row, stroke, painted}
+use Rattle.rules.specs.Refusals.{numbered}
 use Rattle.calls.specs.Lent.{plane_of}
 
 -- the byte that stands at pixel (x, y) after a rule, by the byte that stood there
@@ -17,8 +18,8 @@ pub record RowsPainted (rule : Rule) (pitch width height : ℕ) (before after : 
   pub bytes : after ≡ painted rule (width, height) (plane_of before pitch)
 
 -- what a call answers, and what it leaves in its output
-pub record Passed (number : ℕ) (left output : List ℕ) (r : Answer) : Type 0 where
-  pub answer : r ≡ uncounted number
+pub record Passed (number : ℕ) (left output : List ℕ) (r : Result Unit Refusal) : Type 0 where
+  pub answer : numbered r ≡ number
   pub bytes : output ≡ left
 
 -- pixel (x, y) lies within the bytes of a plane

@@ -9,8 +9,8 @@ float_to_int-n c = (number _ _ (floored c.args.x c.requires.unsigned c.requires.
 
 pub overflow_sub-result : goal.overflow_sub-result
 unfolding of_bits
-overflow_sub-result c = rw c.bit.ensures (taken _ _ (floored c.args.x c.requires.unsigned c.requires.low)).0
+overflow_sub-result c = rw c.from.ensures (taken _ _ (floored c.args.x c.requires.unsigned c.requires.low)).0
 
 pub returns : goal.returns
 unfolding of_bits
-returns c = rw c.bit.ensures (taken _ _ (floored c.args.x c.requires.unsigned c.requires.low)).1
+returns c = rw c.from.ensures (taken _ _ (floored c.args.x c.requires.unsigned c.requires.low)).1

@@ -1,0 +1,39 @@
+-- What a call answers and leaves, by whether it is refused. Assumes nothing.
+use mathlib.Core.Path.{◌≡◌, refl}
+use mathlib.Core.Bool.{false}
+use Prim.Native.Nat.{ℕ}
+use lib.Dec.{eqb}
+use Rattle.std.specs.Prelude.{Ok, Err}
+use Rattle.rules.specs.declared.Refusal.{Refusal}
+use Rattle.rules.specs.declared.Refusal.TheVariants.{Size, Ratio, Pitch, Length, Movement, Setting, Pairs, Cut, Kind, Payload, Turn}
+use Rattle.rules.specs.Forms.{answer, leaves}
+use Rattle.rules.specs.Refusals.{number_of, answered}
+
+-- no refusal has the number 0
+pub number_some : (r : Refusal) → eqb (number_of r) 0 ≡ false
+number_some Size = refl
+number_some Ratio = refl
+number_some Pitch = refl
+number_some Length = refl
+number_some Movement = refl
+number_some Setting = refl
+number_some Pairs = refl
+number_some Cut = refl
+number_some Kind = refl
+number_some Payload = refl
+number_some Turn = refl
+
+-- a refused call leaves the old, an accepted one the new
+module _ {A : Type 0} where
+  pub stays : (r : Refusal) (number : ℕ) (new old : A) → number_of r ≡ number → leaves number new old ≡ old
+  stays r number new old e = simp (← e, number_some r)
+
+  pub goes : (number : ℕ) (new old : A) → 0 ≡ number → leaves number new old ≡ new
+  goes number new old e = simp (← e)
+
+-- a refused call counts nothing, an accepted one what it counts
+pub answers_refused : (r : Refusal) (number count : ℕ) → number_of r ≡ number → answered (Err r) ≡ answer number count
+answers_refused r number count e = simp (← e, number_some r)
+
+pub answers_count : (number count : ℕ) → 0 ≡ number → answered (Ok count) ≡ answer number count
+answers_count number count e = simp (← e)
