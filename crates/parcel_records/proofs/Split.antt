@@ -8,10 +8,12 @@ use native.Mathlib.Omega.{arith}
 use borrow.Author.Tests.{eqb-true, eqb-false}
 use lib.Dec.{eqb}
 use lib.ListN.{length, drop, length-drop}
-use Rattle.rules.specs.Host.{little}
+use Rattle.std.specs.Prelude.{Some, None, Ok, Err}
+use Rattle.rules.specs.declared.Refusal.{Refusal}
+use Rattle.rules.specs.declared.Refusal.TheVariants.{Cut}
 use Rattle.rules.specs.Parcel.{length_at, begins_whole, first_record, split}
-use Rattle.parcel_records.specs.declared.Step.TheVariants.{Whole, Cut, End}
-use Rattle.parcel_records.specs.Steps.{step_at, splits}
+use Rattle.parcel_records.specs.declared.Piece.{Piece}
+use Rattle.parcel_records.specs.Steps.{piece_at, step_at, splits}
 
 -- ---- as many turns as there are bytes are enough
 
@@ -41,36 +43,32 @@ opened bytes =
 
 -- ---- what begins at a place
 
--- the step's own answer says which
-abbrev pub WholeAt : List ℕ → (kind size : ℕ) → Type 0
-WholeAt rest kind size = (begins_whole rest ≡ true) × (kind ≡ little 2 rest 4) × (size ≡ length_at rest)
-
 module _ (parcel : List ℕ) (at : ℕ) where
-  pub whole_at : (kind start size : ℕ) → step_at parcel at ≡ Whole kind start size → WholeAt (drop at parcel) kind size × (start ≡ at + 6)
-  whole_at kind start size e = go (eqb (length (drop at parcel)) 0) (begins_whole (drop at parcel)) e
+  abbrev rest : List ℕ
+  rest = drop at parcel
+
+  pub whole_at : (r : Piece) → step_at parcel at ≡ Ok (Some r) → (begins_whole (drop at parcel) ≡ true) × (piece_at parcel at ≡ r)
+  whole_at r e = go (eqb (length rest) 0) (begins_whole rest) e
     where
-      go : (none whole : Bool) → cond none End (cond whole (Whole (little 2 (drop at parcel) 4) (at + 6) (length_at (drop at parcel))) Cut) ≡ Whole kind start size
-          → ((whole ≡ true) × (kind ≡ little 2 (drop at parcel) 4) × (size ≡ length_at (drop at parcel))) × (start ≡ at + 6)
-      go true whole q = absurd (let z : ◌≡◌ {A = ℕ} 0 1 = cc in omega arith)
-      go false true q = ((refl, (cc), (cc)), (cc))
-      go false false q = absurd (let z : ◌≡◌ {A = ℕ} 0 1 = cc in omega arith)
+      go : (none whole : Bool) → cond none (Ok None) (cond whole (Ok (Some (piece_at parcel at))) (Err Cut)) ≡ Ok (Some r) → (whole ≡ true) × (piece_at parcel at ≡ r)
+      go true whole q = absurd (cc)
+      go false true q = (refl, (cc))
+      go false false q = absurd (cc)
 
   -- nothing begins at the end, and a record cut short is none
-  pub end_at : step_at parcel at ≡ End → length (drop at parcel) ≡ 0
-  end_at e = go (eqb (length (drop at parcel)) 0) (begins_whole (drop at parcel)) refl e
+  pub end_at : step_at parcel at ≡ Ok None → length (drop at parcel) ≡ 0
+  end_at e = go (eqb (length rest) 0) (begins_whole rest) refl e
     where
-      go : (none whole : Bool) → eqb (length (drop at parcel)) 0 ≡ none
-          → cond none End (cond whole (Whole (little 2 (drop at parcel) 4) (at + 6) (length_at (drop at parcel))) Cut) ≡ End → length (drop at parcel) ≡ 0
-      go true whole n q = eqb-true (length (drop at parcel)) 0 n
-      go false true n q = absurd (let z : ◌≡◌ {A = ℕ} 0 1 = cc in omega arith)
-      go false false n q = absurd (let z : ◌≡◌ {A = ℕ} 0 1 = cc in omega arith)
+      go : (none whole : Bool) → eqb (length rest) 0 ≡ none → cond none (Ok None) (cond whole (Ok (Some (piece_at parcel at))) (Err Cut)) ≡ Ok None → length rest ≡ 0
+      go true whole n q = eqb-true (length rest) 0 n
+      go false true n q = absurd (cc)
+      go false false n q = absurd (cc)
 
-  pub cut_at : step_at parcel at ≡ Cut → (length (drop at parcel) ≡ 0 → ⊥) × (begins_whole (drop at parcel) ≡ false)
-  cut_at e = go (eqb (length (drop at parcel)) 0) (begins_whole (drop at parcel)) refl e
+  pub cut_at : (r : Refusal) → step_at parcel at ≡ Err r → (length (drop at parcel) ≡ 0 → ⊥) × (begins_whole (drop at parcel) ≡ false) × (r ≡ Cut)
+  cut_at r e = go (eqb (length rest) 0) (begins_whole rest) refl e
     where
-      go : (none whole : Bool) → eqb (length (drop at parcel)) 0 ≡ none
-          → cond none End (cond whole (Whole (little 2 (drop at parcel) 4) (at + 6) (length_at (drop at parcel))) Cut) ≡ Cut
-          → (length (drop at parcel) ≡ 0 → ⊥) × (whole ≡ false)
-      go true whole n q = absurd (let z : ◌≡◌ {A = ℕ} 0 1 = cc in omega arith)
-      go false true n q = absurd (let z : ◌≡◌ {A = ℕ} 0 1 = cc in omega arith)
-      go false false n q = (eqb-false (length (drop at parcel)) 0 n, refl)
+      go : (none whole : Bool) → eqb (length rest) 0 ≡ none → cond none (Ok None) (cond whole (Ok (Some (piece_at parcel at))) (Err Cut)) ≡ Err r
+          → (length rest ≡ 0 → ⊥) × (whole ≡ false) × (r ≡ Cut)
+      go true whole n q = absurd (cc)
+      go false true n q = absurd (cc)
+      go false false n q = (eqb-false (length rest) 0 n, refl, (cc))

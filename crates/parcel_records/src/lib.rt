@@ -1,31 +1,36 @@
 // The records of a parcel, as they lie in its bytes.
 #![tactic(auto)]
 
-ghost use Rattle.std.specs.Prelude.{◌≡◌, ◌+◌, ◌*◌, ◌<◌, ◌≤◌, length};
+ghost use Rattle.std.specs.Prelude.{◌≡◌, ◌+◌, ◌*◌, ◌<◌, ◌≤◌, length, MatchOption};
 ghost use Rattle.rules.specs.Host.{little};
-ghost use Rattle.parcel_records.specs.Steps.{step_at, count_of, noted_of, Placed};
+ghost use Rattle.parcel_records.specs.Steps.{step_at, count_of, often_in, noted_of, Missing, Placed};
 
-// Two bytes as a number, the lowest first.
-fn joined(low: u8, high: u8) -> usize
-    ensures { (result ≡ low + 256 * high) × (result < 65536) }
-{
-    low as usize + 256 * (high as usize)
-}
+use rules::Refusal;
 
-// The number in two bytes of a slice.
+// The number in two bytes of a slice, the lowest first.
 pub fn two(bytes: &[u8], at: usize) -> usize
     requires { at + 2 ≤ length bytes.now }
-    ensures { (result ≡ little 2 bytes.now at) × (result < 65536) }
+    ensures value { result ≡ little 2 bytes.now at }
+    ensures small { result < 65536 }
 {
-    joined(bytes[at], bytes[at + 1])
+    usize::from(u16::from_le_bytes([bytes[at], bytes[at + 1]]))
 }
 
 // The number in four.
 pub fn four(bytes: &[u8], at: usize) -> usize
     requires { at + 4 ≤ length bytes.now }
-    ensures { (result ≡ little 4 bytes.now at) × (result < 4294967296) }
+    ensures value { result ≡ little 4 bytes.now at }
+    ensures small { result < 4294967296 }
 {
-    two(bytes, at) + 65536 * two(bytes, at + 2)
+    u32::from_le_bytes([bytes[at], bytes[at + 1], bytes[at + 2], bytes[at + 3]]) as usize
+}
+
+// A whole record: its kind, and where its payload lies.
+#[derive(Clone, Copy)]
+pub struct Piece {
+    pub kind: usize,
+    pub start: usize,
+    pub length: usize,
 }
 
 // Where a record begins.
@@ -34,76 +39,43 @@ pub struct Cursor {
     pub at: usize,
 }
 
-// What begins at a cursor.
-#[derive(Clone, Copy)]
-pub enum Step {
-    // A whole record, and where its payload starts.
-    Whole {
-        kind: usize,
-        start: usize,
-        length: usize,
-    },
-    // A record cut short.
-    Cut,
-    // Nothing: the parcel's end.
-    End,
-}
-
 impl Cursor {
-    pub fn step(self, parcel: &[u8]) -> Step
+    // The record that begins at a cursor: none at the parcel's end. One that is cut short is refused.
+    pub fn step(self, parcel: &[u8]) -> Result<Option<Piece>, Refusal>
         ensures { result ≡ step_at parcel.now self.at }
     {
         let at = self.at;
         let size = parcel.len();
         if size <= at {
-            return Step::End;
+            return Ok(None);
         }
-        if size - at < 6 {
-            return Step::Cut;
-        }
+        plane::ensure(6 <= size - at, Refusal::Cut)?;
         let length = four(parcel, at);
         let start = at + 6;
-        if size - start < length {
-            return Step::Cut;
-        }
+        plane::ensure(length <= size - start, Refusal::Cut)?;
         let kind = two(parcel, at + 4);
-        Step::Whole {
+        Ok(Some(Piece {
             kind,
             start,
             length,
-        }
+        }))
     }
 }
 
 // How many records a parcel has, if none is cut short.
-#[derive(Clone, Copy)]
-pub enum Tally {
-    Cut,
-    Records(usize),
-}
-
-pub fn count(parcel: &[u8]) -> Tally
+pub fn count(parcel: &[u8]) -> Result<usize, Refusal>
     ensures { result ≡ count_of parcel.now }
 {
     let mut at = 0;
     let mut n = 0;
-    loop {
-        match (Cursor { at }).step(parcel) {
-            Step::Whole {
-                kind: _,
-                start,
-                length,
-            } => {
-                at = start + length;
-                n += 1;
-            }
-            Step::Cut => return Tally::Cut,
-            Step::End => return Tally::Records(n),
-        }
+    while let Some(piece) = (Cursor { at }).step(parcel)? {
+        at = piece.start + piece.length;
+        n += 1;
     }
+    Ok(n)
 }
 
-// How often a kind occurs, and where the payload of the first such record lies; nowhere is 0 with length 0.
+// How often a kind occurs, and where the payload of the first such record lies.
 #[derive(Clone, Copy)]
 pub struct Place {
     pub often: usize,
@@ -112,49 +84,35 @@ pub struct Place {
 }
 
 // A place, with one more record of its kind seen.
-fn noted(place: Place, start: usize, length: usize) -> Place
-    requires { place.often < 18446744073709551615 }
-    ensures { result ≡ noted_of place start length }
+fn noted(place: Option<Place>, piece: Piece) -> Place
+    requires { often_in place < 18446744073709551615 }
+    ensures { result ≡ noted_of place piece }
 {
-    if place.often == 0 {
-        Place {
+    match place {
+        None => Place {
             often: 1,
-            start,
-            length,
-        }
-    } else {
-        Place {
-            often: place.often + 1,
-            start: place.start,
-            length: place.length,
-        }
+            start: piece.start,
+            length: piece.length,
+        },
+        Some(first) => Place {
+            often: first.often + 1,
+            start: first.start,
+            length: first.length,
+        },
     }
 }
 
-// The place of a kind among a parcel's whole records.
-pub fn find(parcel: &[u8], kind: usize) -> Place
-    ensures { Placed parcel.now kind result }
+// The place of a kind among a parcel's whole records, if it has one.
+pub fn find(parcel: &[u8], kind: usize) -> Option<Place>
+    ensures { MatchOption result (Missing parcel.now kind) (λ p. Placed parcel.now kind p) }
 {
-    let mut place = Place {
-        often: 0,
-        start: 0,
-        length: 0,
-    };
+    let mut place = None;
     let mut at = 0;
-    loop {
-        match (Cursor { at }).step(parcel) {
-            Step::Whole {
-                kind: here,
-                start,
-                length,
-            } => {
-                if here == kind {
-                    place = noted(place, start, length);
-                }
-                at = start + length;
-            }
-            Step::Cut => return place,
-            Step::End => return place,
+    while let Ok(Some(piece)) = (Cursor { at }).step(parcel) {
+        if piece.kind == kind {
+            place = Some(noted(place, piece));
         }
+        at = piece.start + piece.length;
     }
+    place
 }

@@ -1,13 +1,17 @@
 -- What is left of `parcel_records::count`: one record more, and the two ways out.
 use Rattle.std.proofs.Common.{sym}
+use Rattle.std.proofs.lemmas.Result.{err_from_is_err_and}
 use Rattle.parcel_records.proofs.Walk.{count_more, count_end, count_cut}
 use Rattle.parcel_records.proofs.count.Goals as goal
 
-pub loop-start-preserved : goal.loop-start-preserved
-loop-start-preserved c = count_more _ c.loop-start.at _ _ _ _ (sym c.in-Whole.ensures) c.loop-start.invariant
+pub returns-in_err-piece : goal.returns-in_err-piece
+returns-in_err-piece c =
+    let p = err_from_is_err_and c.from_residual.result c.from_residual.ensures.1 in
+    rw (p.1, p.2) (count_cut _ c.loop-piece.at _ _ (sym c.in_err-piece.ensures) c.loop-piece.invariant)
 
-pub returns-in-Cut : goal.returns-in-Cut
-returns-in-Cut c = count_cut _ c.loop-start.at _ (sym c.in-Cut.ensures) c.loop-start.invariant
+pub loop-piece-preserved : goal.loop-piece-preserved
+loop-piece-preserved c =
+    count_more _ c.loop-piece.at _ c.in-Some.piece (sym (rw c.in-Some.is at c.in_ok-piece.ensures)) c.loop-piece.invariant
 
-pub returns-in-End : goal.returns-in-End
-returns-in-End c = count_end _ c.loop-start.at _ (sym c.in-End.ensures) c.loop-start.invariant
+pub returns : goal.returns
+returns c = count_end _ c.loop-piece.at _ (sym (rw c.in_default.is at c.in_ok-piece.ensures)) c.loop-piece.invariant

@@ -5,8 +5,8 @@ use lib.ListN.{length}
 use Rattle.parcel_records.specs.Steps.{Counting}
 use Rattle.parcel_records.proofs.count.Given as goal
 
-abbrev pub invariant-loop-start : goal.invariant-loop-start
-invariant-loop-start l = Counting l.parcel l.at l.n
+abbrev pub invariant-loop-piece : goal.invariant-loop-piece
+invariant-loop-piece l = Counting l.parcel l.at l.n
 
-abbrev pub decreases-loop-start : goal.decreases-loop-start
-decreases-loop-start l = length l.parcel - l.at
+abbrev pub decreases-loop-piece : goal.decreases-loop-piece
+decreases-loop-piece l = length l.parcel - l.at

@@ -1,19 +1,23 @@
 -- What is left of `parcel_records::find`: one record more, and the two ways out.
-use Rattle.std.proofs.Common.{sym}
+use Rattle.std.proofs.Common.{◌≡◌, None, Ok, sym, ◌∙◌}
+use Rattle.parcel_records.specs.Steps.{step_at}
 use Rattle.parcel_records.proofs.Walk.{at_end, at_cut, find_other, find_one, found}
 use Rattle.parcel_records.proofs.find.Goals as goal
-use Rattle.parcel_records.proofs.find.Goals.{then-here-kind, else-here-kind}
+use Rattle.parcel_records.proofs.find.Goals.{then-piece-kind, else-piece-kind}
 
-pub loop-here-preserved : goal.loop-here-preserved
-loop-here-preserved c =
-    let e = sym c.in-Whole.ensures in
-    elim c.if-here-kind.branch [
-      | then-here-kind w ↦ rw (w.place-is, w.noted-place.ensures) (find_one _ _ c.loop-here.place c.loop-here.at _ _ _ e w.if-here-kind.true c.loop-here.invariant)
-      | else-here-kind w ↦ rw w.place-is (find_other _ _ c.loop-here.place c.loop-here.at _ _ _ e w.if-here-kind.false c.loop-here.invariant)
+pub loop-piece-preserved : goal.loop-piece-preserved
+loop-piece-preserved c =
+    let e = sym (rw c.in-Ok-Some.field-0-is at c.in-Ok-Some.ensures) in
+    elim c.if-piece-kind.branch [
+      | then-piece-kind w ↦ rw (w.place-is, w.noted.ensures) (find_one _ c.loop-piece.at _ c.loop-piece.place _ e w.if-piece-kind.true c.loop-piece.invariant)
+      | else-piece-kind w ↦ rw w.place-is (find_other _ c.loop-piece.at _ c.loop-piece.place _ e w.if-piece-kind.false c.loop-piece.invariant)
     ]
 
-pub returns-in-Cut : goal.returns-in-Cut
-returns-in-Cut c = found _ _ c.loop-here.place c.loop-here.at (at_cut _ c.loop-here.at (sym c.in-Cut.ensures)).0 c.loop-here.invariant
+pub returns-in_default : goal.returns-in_default
+returns-in_default c =
+    let e : step_at c.args.parcel.now c.loop-piece.at ≡ Ok None = cc in
+    found _ c.loop-piece.at _ c.loop-piece.place (at_end _ c.loop-piece.at e).0 c.loop-piece.invariant
 
-pub returns-in-End : goal.returns-in-End
-returns-in-End c = found _ _ c.loop-here.place c.loop-here.at (at_end _ c.loop-here.at (sym c.in-End.ensures)).0 c.loop-here.invariant
+pub returns-in_default-2 : goal.returns-in_default-2
+returns-in_default-2 c =
+    found _ c.loop-piece.at _ c.loop-piece.place (at_cut _ c.loop-piece.at _ (sym c.step.ensures ∙ c.in_default.is)).0 c.loop-piece.invariant

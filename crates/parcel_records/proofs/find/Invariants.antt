@@ -5,8 +5,8 @@ use lib.ListN.{length}
 use Rattle.parcel_records.specs.Steps.{Finding}
 use Rattle.parcel_records.proofs.find.Given as goal
 
-abbrev pub invariant-loop-here : goal.invariant-loop-here
-invariant-loop-here l = Finding l.parcel l.kind l.place l.at
+abbrev pub invariant-loop-piece : goal.invariant-loop-piece
+invariant-loop-piece l = Finding l.parcel l.kind l.place l.at
 
-abbrev pub decreases-loop-here : goal.decreases-loop-here
-decreases-loop-here l = length l.parcel - l.at
+abbrev pub decreases-loop-piece : goal.decreases-loop-piece
+decreases-loop-piece l = length l.parcel - l.at
