@@ -42,8 +42,10 @@ pub fn of_int(number: i32) -> f32
 }
 
 // The two entries of a side around a place, which is held to the entries' middles.
+#[tactic(auto, unfolding(rules::specs::Motion::taps))]
 pub fn taps(place: f32, size: usize) -> Taps
-    requires { (1 ≤ size) × (size ≤ 4096) }
+    requires some { 1 ≤ size }
+    requires few { size ≤ 4096 }
     ensures { Within (taps_of place size) size result }
 {
     let point = sample::held(place - 0.5, size);
@@ -51,8 +53,10 @@ pub fn taps(place: f32, size: usize) -> Taps
 }
 
 // The two rows of the grid around a pixel row.
+#[tactic(auto, unfolding(rules::specs::Motion::row_taps))]
 pub fn row_taps(grid: Grid, ratio: usize, y: usize) -> Taps
-    requires { Laid grid ratio × (y ≤ 4096) }
+    requires laid { Laid grid ratio }
+    requires near { y ≤ 4096 }
     ensures { Within (row_taps (laid_out grid) ratio y) grid.height result }
 {
     let at = float::of_size(y * ratio) - of_int(grid.origin_y);
@@ -61,7 +65,8 @@ pub fn row_taps(grid: Grid, ratio: usize, y: usize) -> Taps
 
 // A pixel column's place in the grid, held to the entries' middles.
 pub fn column_place(grid: Grid, ratio: usize, x: usize) -> f32
-    requires { Laid grid ratio × (x ≤ 4096) }
+    requires laid { Laid grid ratio }
+    requires near { x ≤ 4096 }
     ensures { Held (place_of (laid_out grid) ratio x) grid.width result }
 {
     let at = float::of_size(x) * float::of_size(ratio) - of_int(grid.origin_x);
@@ -69,8 +74,10 @@ pub fn column_place(grid: Grid, ratio: usize, x: usize) -> f32
 }
 
 // The two columns of the grid around a pixel column.
+#[tactic(auto, unfolding(rules::specs::Motion::column_taps, rules::specs::Motion::taps))]
 pub fn column_taps(grid: Grid, ratio: usize, x: usize) -> Taps
-    requires { Laid grid ratio × (x ≤ 4096) }
+    requires laid { Laid grid ratio }
+    requires near { x ≤ 4096 }
     ensures { Within (column_taps (laid_out grid) ratio x) grid.width result }
 {
     sample::between(column_place(grid, ratio, x), grid.width)
@@ -78,7 +85,8 @@ pub fn column_taps(grid: Grid, ratio: usize, x: usize) -> Taps
 
 // One pixel of the plane in a field's steps.
 fn scale(ratio: usize, pel: i32) -> f32
-    requires { (ratio ≤ 4) × (nat_abs pel ≤ 4096) }
+    requires few { ratio ≤ 4 }
+    requires parts { nat_abs pel ≤ 4096 }
     ensures { result ≡ 1·0 ⊘ (float ratio ⊗ signed pel) }
 {
     1.0 / (float::of_size(ratio) * of_int(pel))
@@ -86,7 +94,11 @@ fn scale(ratio: usize, pel: i32) -> f32
 
 // A number of a field as a float.
 fn entry(field: &[u16], width: usize, height: usize, x: usize, y: usize) -> f32
-    requires { Covers (width, height) field.now × (width ≤ 4096) × (height ≤ 4096) × (x < width) × (y < height) }
+    requires covers { Covers (width, height) field.now }
+    requires wide { width ≤ 4096 }
+    requires tall { height ≤ 4096 }
+    requires across { x < width }
+    requires down { y < height }
     ensures { result ≡ entry_of width field.now x y }
 {
     let k = plane::place(y, width, x);
@@ -94,8 +106,13 @@ fn entry(field: &[u16], width: usize, height: usize, x: usize, y: usize) -> f32
 }
 
 // A column of a field, between two rows.
+#[tactic(auto, unfolding(crate::specs::Moves::column_at))]
 fn column(field: &[u16], width: usize, height: usize, scale: f32, down: Taps, x: usize) -> f32
-    requires { Covers (width, height) field.now × (width ≤ 4096) × (height ≤ 4096) × (x < width) × Rows height down }
+    requires covers { Covers (width, height) field.now }
+    requires wide { width ≤ 4096 }
+    requires tall { height ≤ 4096 }
+    requires across { x < width }
+    requires rows { Rows height down }
     ensures { result ≡ column_at width scale field.now down x }
 {
     let above = entry(field, width, height, x, down.first);
@@ -104,6 +121,7 @@ fn column(field: &[u16], width: usize, height: usize, scale: f32, down: Taps, x:
 }
 
 // The column of each field: the first frame takes the backward ones.
+#[tactic(auto, unfolding(crate::specs::Moves::column_at, crate::specs::Moves::columns_of, rules::specs::Motion::column))]
 fn columns(
     forward_x: &[u16],
     forward_y: &[u16],
@@ -114,7 +132,9 @@ fn columns(
     down: Taps,
     x: usize,
 ) -> Steps
-    requires { Moves (fields_of forward_x forward_y backward_x backward_y) grid ratio × Rows grid.height down × (x < grid.width) }
+    requires moves { Moves (fields_of forward_x forward_y backward_x backward_y) grid ratio }
+    requires rows { Rows grid.height down }
+    requires within { x < grid.width }
     ensures { result ≡ columns_of (motion_of (fields_of forward_x.entry forward_y.entry backward_x.entry backward_y.entry) grid) ratio down x }
 {
     let scale = scale(ratio, grid.pel);
@@ -138,7 +158,9 @@ pub fn around(
     down: Taps,
     across: Taps,
 ) -> Carried
-    requires { Moves (fields_of forward_x forward_y backward_x backward_y) grid ratio × Rows grid.height down × (across.first < grid.width) }
+    requires moves { Moves (fields_of forward_x forward_y backward_x backward_y) grid ratio }
+    requires rows { Rows grid.height down }
+    requires within { across.first < grid.width }
     ensures { Carries (motion_of (fields_of forward_x.entry forward_y.entry backward_x.entry backward_y.entry) grid) ratio down across result }
 {
     let first = across.first;
@@ -166,17 +188,16 @@ pub fn carry_to(
     previous: Carried,
     across: Taps,
 ) -> Carried
-    requires { Moves fields grid ratio × Rows grid.height down × Holds (motion_of fields grid) ratio down previous × (across.first < grid.width) }
+    requires moves { Moves fields grid ratio }
+    requires rows { Rows grid.height down }
+    requires holds { Holds (motion_of fields grid) ratio down previous }
+    requires within { across.first < grid.width }
     ensures { Carries (motion_of fields.entry grid) ratio down across result }
 {
     if across.first == previous.first {
-        let left = previous.left;
-        let right = previous.right;
         return Carried {
-            first: across.first,
             share: across.share,
-            left,
-            right,
+            ..previous
         };
     }
     around(
@@ -185,6 +206,7 @@ pub fn carry_to(
 }
 
 // The same of pixel column x.
+#[tactic(auto, using(crate::proofs::Fields::same_columns))]
 pub fn carry(
     fields: [&[u16]; 4],
     grid: Grid,
@@ -193,7 +215,10 @@ pub fn carry(
     previous: Carried,
     x: usize,
 ) -> Carried
-    requires { Moves fields grid ratio × Rows grid.height down × Holds (motion_of fields grid) ratio down previous × (x ≤ 4096) }
+    requires moves { Moves fields grid ratio }
+    requires rows { Rows grid.height down }
+    requires holds { Holds (motion_of fields grid) ratio down previous }
+    requires near { x ≤ 4096 }
     ensures { Carries (motion_of fields.entry grid) ratio down (column_taps (motion_of fields.entry grid) ratio x) result }
 {
     carry_to(

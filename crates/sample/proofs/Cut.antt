@@ -93,9 +93,9 @@ low_first x n h = go (lt x 0·0) (lt (float n) 0·0) refl (λ t. not_lt_of_le 0�
     go true false e f = rw (← e)
     go false b e f = refl
 
-pub held : (x r : Float) (size : ℕ) → (1 ≤ size) × (size ≤ 4096) → r ≡ cond (lt (float (size - 1)) (cond (lt x 0·0) 0·0 x)) (float (size - 1)) (cond (lt x 0·0) 0·0 x)
+pub held : (x r : Float) (size : ℕ) → 1 ≤ size → size ≤ 4096 → r ≡ cond (lt (float (size - 1)) (cond (lt x 0·0) 0·0 x)) (float (size - 1)) (cond (lt x 0·0) 0·0 x)
     → Held x size r
-held x r size h e =
+held x r size some few e =
     let n : size - 1 ≤ 2 ^ 24 = omega arith in
     let is : r ≡ held_to x size = e ∙ low_first x (size - 1) n in
     record { is = is; within = rw is (lt_of_le_of_lt (cut_clamp x (size - 1) n) (omega arith)) }

@@ -10,6 +10,7 @@ ghost use Rattle.sample.specs.Points.{positive_of, PlaneFits, Held, Within, arou
 use rules::Taps;
 
 // x where it is above 0, and 0 for a NaN too.
+// Kept: (a) the largest of two floats is an own helper.
 fn positive(x: f32) -> f32
     ensures { result ≡ positive_of x }
 {
@@ -25,8 +26,10 @@ pub fn whole(x: f32) -> u32
 }
 
 // A coordinate held to the plane. Below 0 first: two tests that make no branch.
+// Kept: (a) a float is held by an own helper.
 pub fn held(x: f32, size: usize) -> f32
-    requires { (1 ≤ size) × (size ≤ 4096) }
+    requires some { 1 ≤ size }
+    requires few { size ≤ 4096 }
     ensures { Held x size result }
 {
     let low = if x < 0.0 { 0.0 } else { x };
@@ -36,7 +39,9 @@ pub fn held(x: f32, size: usize) -> f32
 
 // A pixel's coordinate, moved and held to the plane.
 pub fn shifted(x: usize, d: f32, size: usize) -> f32
-    requires { (x ≤ 4096) × (1 ≤ size) × (size ≤ 4096) }
+    requires near { x ≤ 4096 }
+    requires some { 1 ≤ size }
+    requires few { size ≤ 4096 }
     ensures { Held (float x ⊕ d) size result }
 {
     held(float::of_size(x) + d, size)
@@ -44,7 +49,9 @@ pub fn shifted(x: usize, d: f32, size: usize) -> f32
 
 // The two columns or rows around a point of the plane, the first of which is known.
 pub fn taps_at(x: f32, first: usize, size: usize) -> Taps
-    requires { (first ≡ cut x) × (first < size) × (size ≤ 4096) }
+    requires first_is { first ≡ cut x }
+    requires within { first < size }
+    requires few { size ≤ 4096 }
     ensures { Within (around x size) size result }
 {
     Taps {
@@ -56,7 +63,8 @@ pub fn taps_at(x: f32, first: usize, size: usize) -> Taps
 
 // The two columns or rows around a point of the plane. The point is cut once.
 pub fn between(x: f32, size: usize) -> Taps
-    requires { (cut x < size) × (size ≤ 4096) }
+    requires within { cut x < size }
+    requires few { size ≤ 4096 }
     ensures { Within (around x size) size result }
 {
     taps_at(x, whole(x) as usize, size)
@@ -64,7 +72,10 @@ pub fn between(x: f32, size: usize) -> Taps
 
 // A byte of a plane as a float.
 pub fn at(raw: &[u8], pitch: usize, x: usize, y: usize) -> f32
-    requires { (x ≤ 65536) × (y ≤ 65536) × (pitch ≤ 65536) × (y * pitch + x < length raw.now) }
+    requires across { x ≤ 65536 }
+    requires down { y ≤ 65536 }
+    requires apart { pitch ≤ 65536 }
+    requires long { y * pitch + x < length raw.now }
     ensures { result ≡ at_of (plane_of raw.now pitch) x y }
 {
     let k = plane::place(y, pitch, x);
@@ -72,8 +83,12 @@ pub fn at(raw: &[u8], pitch: usize, x: usize, y: usize) -> f32
 }
 
 // Two bytes of a row, mixed.
+#[tactic(auto, unfolding(crate::specs::Points::sampled_row))]
 fn sample_row(raw: &[u8], pitch: usize, across: Taps, y: usize, width: usize, height: usize) -> f32
-    requires { PlaneFits raw.now pitch width height × (across.first < width) × (across.second < width) × (y < height) }
+    requires fits { PlaneFits raw.now pitch width height }
+    requires first_in { across.first < width }
+    requires second_in { across.second < width }
+    requires low { y < height }
     ensures { result ≡ sampled_row (plane_of raw.now pitch) across y }
 {
     let m = at(raw, pitch, across.first, y);
@@ -82,6 +97,7 @@ fn sample_row(raw: &[u8], pitch: usize, across: Taps, y: usize, width: usize, he
 }
 
 // The plane between four pixels, along the row first.
+#[tactic(auto, unfolding(crate::specs::Points::sampled_at))]
 pub fn sample_at(
     raw: &[u8],
     pitch: usize,
@@ -90,7 +106,11 @@ pub fn sample_at(
     width: usize,
     height: usize,
 ) -> f32
-    requires { PlaneFits raw.now pitch width height × (across.first < width) × (across.second < width) × (down.first < height) × (down.second < height) }
+    requires fits { PlaneFits raw.now pitch width height }
+    requires first_in { across.first < width }
+    requires second_in { across.second < width }
+    requires upper_in { down.first < height }
+    requires lower_in { down.second < height }
     ensures { result ≡ sampled_at (plane_of raw.now pitch) across down }
 {
     let upper = sample_row(raw, pitch, across, down.first, width, height);

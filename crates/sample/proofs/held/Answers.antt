@@ -11,10 +11,10 @@ pub returns-then-last-low : goal.returns-then-last-low
 returns-then-last-low c =
     let a = c.args in
     let low : c.if-x.low ≡ cond (a.x ≺ 0·0) 0·0 a.x = elim c.if-x.branch [ then-x w ↦ w.low-is ∙ rw w.if-x.true | else-x w ↦ w.low-is ∙ rw w.if-x.false ] in
-    laws.held a.x c.of_size-last.result a.size c.requires (rw (← low, ← c.of_size-last.ensures, c.if-last-low.true))
+    laws.held a.x c.of_size-last.result a.size c.requires.some c.requires.few (rw (← low, ← c.of_size-last.ensures, c.if-last-low.true))
 
 pub returns-else-last-low : goal.returns-else-last-low
 returns-else-last-low c =
     let a = c.args in
     let low : c.if-x.low ≡ cond (a.x ≺ 0·0) 0·0 a.x = elim c.if-x.branch [ then-x w ↦ w.low-is ∙ rw w.if-x.true | else-x w ↦ w.low-is ∙ rw w.if-x.false ] in
-    laws.held a.x c.if-x.low a.size c.requires (rw (← low, ← c.of_size-last.ensures, c.if-last-low.false))
+    laws.held a.x c.if-x.low a.size c.requires.some c.requires.few (rw (← low, ← c.of_size-last.ensures, c.if-last-low.false))
