@@ -1,16 +1,10 @@
--- A motion number is read back from its bits; a number stands within its field; a pixel row's number times the ratio is
--- small; what is carried gives the definition's steps. Assumes nothing.
+-- A motion number is read back from its bits; what is carried gives the definition's steps. Assumes nothing.
 use mathlib.Core.Path.{◌≡◌, refl, ap, ◌∙◌}
-use Prim.Native.Nat.{ℕ, ◌+◌, ◌*◌, ◌^◌, ◌≤◌, ◌<◌}
-use native.Mathlib.Nat.{mul-le-mul, le_trans}
+use Prim.Native.Nat.{ℕ, ◌≤◌}
 use native.Mathlib.Omega.{arith}
-use mathlib.Core.List.{List}
-use lib.Dec.{lit≤}
 use lib.IntN.{ℤ, nat_abs}
-use lib.ListN.{length}
 use mir.Syntax.{w32}
 use mir.Val.{to_z, of_z}
-use Rattle.laws.proofs.Lists.{place_in}
 use Rattle.laws.proofs.Signed.{again}
 use Rattle.rules.specs.declared.Taps.{Taps}
 use Rattle.rules.specs.Forms.{Motion}
@@ -18,38 +12,16 @@ use lib.Ieee.{Float}
 use Rattle.rules.specs.Reading.{after, held_to}
 use Rattle.rules.specs.Motion.{taps, row_taps, column_taps, step, steps}
 use Rattle.sample.specs.Points.{around}
-use Rattle.plane.specs.Slices.{Slices}
 use Rattle.motion.specs.declared.Carried.{Carried}
-use Rattle.motion.specs.declared.Grid.{Grid}
-use Rattle.motion.specs.Moves.{motion_of, laid_out, place_of, Covers, columns_of, steps_by, Holds, Carries, mixed_steps}
+use Rattle.motion.specs.Moves.{place_of, columns_of, steps_by, Carries, mixed_steps}
 
 -- a motion number is read back from its bits
 pub back : (z : ℤ) → nat_abs z ≤ 4096 → to_z w32 (of_z w32 z) ≡ z
 back z h = again w32 z (omega arith)
 
-pub entry_in : (width height : ℕ) (field : List ℕ) (x y : ℕ) → Covers (width, height) field → x < width → y < height → y * width + x < length field
-entry_in width height field x y room across down = omega (arith, place_in down across)
-
-pub scaled : (y ratio : ℕ) → y ≤ 4096 → ratio ≤ 4 → y * ratio ≤ 2 ^ 24
-scaled y ratio h k = le_trans (mul-le-mul h k) (lit≤ tt)
-
--- the entries around a pixel are the same whatever the fields hold
-pub same_columns : (fields : Slices ℕ) (g : Grid) (ratio x : ℕ) → column_taps (laid_out g) ratio x ≡ column_taps (motion_of fields g) ratio x
-unfolding column_taps
-same_columns fields g ratio x = refl
-
-pub same_rows : (fields : Slices ℕ) (g : Grid) (ratio y : ℕ) → row_taps (laid_out g) ratio y ≡ row_taps (motion_of fields g) ratio y
-unfolding row_taps
-same_rows fields g ratio y = refl
-
 -- what is carried to a place is carried to the same place by another name
 pub to : {m : Motion} {ratio : ℕ} {down across there : Taps} {c : Carried} → across ≡ there → Carries m ratio down across c → Carries m ratio down there c
 to e h = record { first = h.first ∙ ap (λ (t : Taps). t.first) e; share = h.share ∙ ap (λ (t : Taps). t.share) e; holds = h.holds }
-
--- the same columns, for another pixel of the block
-pub kept : {m : Motion} {ratio : ℕ} {down : Taps} {c : Carried} (across : Taps) → Holds m ratio down c → across.first ≡ c.first
-    → Carries m ratio down across (record { first = across.first; share = across.share; left = c.left; right = c.right })
-kept across h e = record { first = refl; share = refl; holds = record { left = rw e h.left; right = rw e h.right } }
 
 -- the second column is the one after the first
 second : (m : Motion) (ratio x : ℕ) → (column_taps m ratio x).second ≡ after (column_taps m ratio x).first m.grid.0
@@ -71,7 +43,7 @@ pub carried_steps : (m : Motion) (ratio x y : ℕ) (c : Carried)
 carried_steps m ratio x y c h = carried_by m ratio (row_taps m ratio y) x c h ∙ by_rows m ratio x y
 
 -- a place in the grid and the entries around it
-pub around_place : (fields : Slices ℕ) (g : Grid) (ratio x : ℕ) (p : Float) (t : Taps) → p ≡ held_to (place_of (laid_out g) ratio x) g.width
-    → t ≡ around p g.width → t ≡ column_taps (motion_of fields g) ratio x
+pub around_place : (m : Motion) (ratio x : ℕ) (p : Float) (t : Taps) → p ≡ held_to (place_of m ratio x) m.grid.0 → t ≡ around p m.grid.0
+    → t ≡ column_taps m ratio x
 unfolding column_taps taps
-around_place fields g ratio x p t e is = rw (is, e)
+around_place m ratio x p t e is = rw (is, e)

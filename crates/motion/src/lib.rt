@@ -23,6 +23,15 @@ pub struct Grid {
     pub pel: i32,
 }
 
+// The motion between two frames: its four fields, what they are laid out by, and the ratio of the plane that it moves.
+#[derive(Clone, Copy)]
+pub struct Motion<'m> {
+    pub fields: [&'m [u16]; 4],
+    pub grid: Grid,
+    pub ratio: usize,
+    pub ghost moves: { Moves fields grid ratio },
+}
+
 // The columns of the four fields around a pixel, and the share of the right ones. A block's pixels
 // share them, so that a row's loop carries them along.
 #[derive(Clone, Copy)]
@@ -50,37 +59,6 @@ pub fn taps(place: f32, size: usize) -> Taps
 {
     let point = sample::held(place - 0.5, size);
     sample::between(point, size)
-}
-
-// The two rows of the grid around a pixel row.
-#[tactic(auto, unfolding(rules::specs::Motion::row_taps))]
-pub fn row_taps(grid: Grid, ratio: usize, y: usize) -> Taps
-    requires laid { Laid grid ratio }
-    requires near { y ≤ 4096 }
-    ensures { Within (row_taps (laid_out grid) ratio y) grid.height result }
-{
-    let at = float::of_size(y * ratio) - of_int(grid.origin_y);
-    taps(at / of_int(grid.block_height), grid.height)
-}
-
-// A pixel column's place in the grid, held to the entries' middles.
-pub fn column_place(grid: Grid, ratio: usize, x: usize) -> f32
-    requires laid { Laid grid ratio }
-    requires near { x ≤ 4096 }
-    ensures { Held (place_of (laid_out grid) ratio x) grid.width result }
-{
-    let at = float::of_size(x) * float::of_size(ratio) - of_int(grid.origin_x);
-    sample::held(at / of_int(grid.block_width) - 0.5, grid.width)
-}
-
-// The two columns of the grid around a pixel column.
-#[tactic(auto, unfolding(rules::specs::Motion::column_taps, rules::specs::Motion::taps))]
-pub fn column_taps(grid: Grid, ratio: usize, x: usize) -> Taps
-    requires laid { Laid grid ratio }
-    requires near { x ≤ 4096 }
-    ensures { Within (column_taps (laid_out grid) ratio x) grid.width result }
-{
-    sample::between(column_place(grid, ratio, x), grid.width)
 }
 
 // One pixel of the plane in a field's steps.
@@ -146,8 +124,8 @@ fn columns(
     }
 }
 
-// The columns around a pixel, read anew. The fields come singly: so it is small enough to be compiled into each row's
-// loop, and what is carried stays in registers.
+// The columns around a pixel, read anew.
+// Kept: (b) the fields come singly: as one value they cost stats 1.03 of its time, for it is not compiled into a row then.
 pub fn around(
     forward_x: &[u16],
     forward_y: &[u16],
@@ -163,81 +141,98 @@ pub fn around(
     requires within { across.first < grid.width }
     ensures { Carries (motion_of (fields_of forward_x.entry forward_y.entry backward_x.entry backward_y.entry) grid) ratio down across result }
 {
-    let first = across.first;
-    let after = plane::after(first, grid.width);
-    let left = columns(
-        forward_x, forward_y, backward_x, backward_y, grid, ratio, down, first,
-    );
-    let right = columns(
-        forward_x, forward_y, backward_x, backward_y, grid, ratio, down, after,
-    );
+    let after = plane::after(across.first, grid.width);
     Carried {
-        first,
+        first: across.first,
         share: across.share,
-        left,
-        right,
+        left: columns(
+            forward_x,
+            forward_y,
+            backward_x,
+            backward_y,
+            grid,
+            ratio,
+            down,
+            across.first,
+        ),
+        right: columns(
+            forward_x, forward_y, backward_x, backward_y, grid, ratio, down, after,
+        ),
     }
 }
 
-// The columns around a pixel between two: those of the pixel before it, where they are the same.
-pub fn carry_to(
-    fields: [&[u16]; 4],
-    grid: Grid,
-    ratio: usize,
-    down: Taps,
-    previous: Carried,
-    across: Taps,
-) -> Carried
-    requires moves { Moves fields grid ratio }
-    requires rows { Rows grid.height down }
-    requires holds { Holds (motion_of fields grid) ratio down previous }
-    requires within { across.first < grid.width }
-    ensures { Carries (motion_of fields.entry grid) ratio down across result }
-{
-    if across.first == previous.first {
-        return Carried {
-            share: across.share,
-            ..previous
-        };
+impl Motion<'_> {
+    // The two rows of the grid around a pixel row.
+    #[tactic(auto, unfolding(rules::specs::Motion::row_taps))]
+    pub fn row_taps(self, y: usize) -> Taps
+        requires { y ≤ 4096 }
+        ensures { Within (row_taps (motion_of self.entry.fields self.entry.grid) self.entry.ratio y) self.entry.grid.height result }
+    {
+        let grid = self.grid;
+        let at = float::of_size(y * self.ratio) - of_int(grid.origin_y);
+        taps(at / of_int(grid.block_height), grid.height)
     }
-    around(
-        fields[0], fields[1], fields[2], fields[3], grid, ratio, down, across,
-    )
-}
 
-// The same of pixel column x.
-#[tactic(auto, using(crate::proofs::Fields::same_columns))]
-pub fn carry(
-    fields: [&[u16]; 4],
-    grid: Grid,
-    ratio: usize,
-    down: Taps,
-    previous: Carried,
-    x: usize,
-) -> Carried
-    requires moves { Moves fields grid ratio }
-    requires rows { Rows grid.height down }
-    requires holds { Holds (motion_of fields grid) ratio down previous }
-    requires near { x ≤ 4096 }
-    ensures { Carries (motion_of fields.entry grid) ratio down (column_taps (motion_of fields.entry grid) ratio x) result }
-{
-    carry_to(
-        fields,
-        grid,
-        ratio,
-        down,
-        previous,
-        column_taps(grid, ratio, x),
-    )
+    // A pixel column's place in the grid, held to the entries' middles.
+    pub fn column_place(self, x: usize) -> f32
+        requires { x ≤ 4096 }
+        ensures { Held (place_of (motion_of self.entry.fields self.entry.grid) self.entry.ratio x) self.entry.grid.width result }
+    {
+        let grid = self.grid;
+        let at = float::of_size(x) * float::of_size(self.ratio) - of_int(grid.origin_x);
+        sample::held(at / of_int(grid.block_width) - 0.5, grid.width)
+    }
+
+    // The two columns of the grid around a pixel column.
+    #[tactic(auto, unfolding(rules::specs::Motion::column_taps, rules::specs::Motion::taps))]
+    pub fn column_taps(self, x: usize) -> Taps
+        requires { x ≤ 4096 }
+        ensures { Within (column_taps (motion_of self.entry.fields self.entry.grid) self.entry.ratio x) self.entry.grid.width result }
+    {
+        sample::between(self.column_place(x), self.grid.width)
+    }
+
+    // The columns around a pixel between two: those of the pixel before it, where they are the same.
+    pub fn carry_to(self, down: Taps, previous: Carried, across: Taps) -> Carried
+        requires rows { Rows self.grid.height down }
+        requires holds { Holds (motion_of self.fields self.grid) self.ratio down previous }
+        requires within { across.first < self.grid.width }
+        ensures { Carries (motion_of self.entry.fields self.entry.grid) self.entry.ratio down across result }
+    {
+        if across.first == previous.first {
+            return Carried {
+                share: across.share,
+                ..previous
+            };
+        }
+        let fields = self.fields;
+        around(
+            fields[0], fields[1], fields[2], fields[3], self.grid, self.ratio, down, across,
+        )
+    }
+
+    // The same of pixel column x.
+    pub fn carry(self, down: Taps, previous: Carried, x: usize) -> Carried
+        requires rows { Rows self.grid.height down }
+        requires holds { Holds (motion_of self.fields self.grid) self.ratio down previous }
+        requires near { x ≤ 4096 }
+        ensures { let m = motion_of self.entry.fields self.entry.grid in
+            Carries m self.entry.ratio down (column_taps m self.entry.ratio x) result }
+    {
+        self.carry_to(down, previous, self.column_taps(x))
+    }
 }
 
 // How far a pixel moves: its columns, mixed.
 pub fn steps_of(carried: Carried) -> Steps
     ensures { result ≡ mixed_steps carried }
 {
-    let left = carried.left;
-    let right = carried.right;
-    let share = carried.share;
+    let Carried {
+        left,
+        right,
+        share,
+        ..
+    } = carried;
     Steps {
         fx: float::mix(left.fx, right.fx, share),
         fy: float::mix(left.fy, right.fy, share),
