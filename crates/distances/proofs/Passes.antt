@@ -4,16 +4,19 @@ use mathlib.Core.Logic.{inl, inr, ⊎_elim}
 use mathlib.Core.List.{List}
 use Prim.Native.Nat.{ℕ, zero, suc, ◌+◌, ◌-◌, ◌*◌, ◌/◌, ◌≤◌, ◌<◌, min}
 use native.Mathlib.Nat.{div-mul-le_self, mul-le-mul_right}
-use native.Mathlib.Decide.{dec_lt}
 use native.Mathlib.Omega.{arith}
 use lib.ListN.{length, get_or, set, length-set}
-use borrow.Author.Tests.{le-leb, lt-leb}
+use borrow.Author.Tests.{leb-true}
+use lib.Dec.{leb}
+use mathlib.Core.Bool.{true, false}
+use Rattle.std.specs.Prelude.{Ok, Err}
+use Rattle.rules.specs.declared.Refusal.TheVariants.{Size}
 use Rattle.rules.specs.Calls.{DistancesCall}
 use Rattle.rules.specs.Refusals.{first_fitting, distances_refusal}
 use Rattle.rules.specs.Distances.{whole, distances}
 use Rattle.distances.specs.Call.{DistancesAnswered}
 use Rattle.distances.specs.Pass.{lowest_of, Rows, Within, Smooth, Down, Back, Kept, Passed}
-use Rattle.distances.proofs.Grid.{spot, row_in, nearest_own, exact}
+use Rattle.distances.proofs.Grid.{spot, nearest_own, exact}
 use Rattle.distances.proofs.Laws.{as_table}
 use Rattle.distances.proofs.Steps.{Lowered, lowered, ways_before, ways_after, kept_step, down_step, back_step}
 
@@ -68,64 +71,39 @@ module _ (w x first other left right beside : ℕ) (cells : List ℕ) (v : ℕ) 
 
 -- ---- the rows of a pass
 
--- where row y begins
-pub begins : (w y row : ℕ) → 0 < w → row ≡ y * w → (row / w ≡ y) × (row ≡ row / w * w)
-begins w y row p e =
-    let d : row / w ≡ y = (spot w (suc y) 0 y row p (omega arith) (omega arith)).2 in
-    (d, omega (arith, ap (λ (n : ℕ). n * w) d))
-
-pub row_after : (w row : ℕ) → 0 < w → row ≡ row / w * w → row + w ≡ (row + w) / w * w
-row_after w row p e = (begins w (row / w + 1) (row + w) p (omega arith)).1
-
-pub row_before : (w row : ℕ) → 0 < w → 0 < row → row ≡ row / w * w → (w ≤ row) × (row - w ≡ (row - w) / w * w)
-row_before w row p h e = go (row / w) e
-  where
-    go : (y : ℕ) → row ≡ y * w → (w ≤ row) × (row - w ≡ (row - w) / w * w)
-    go zero f = absurd (omega arith)
-    go (suc y) f = (omega arith, (begins w y (row - w) p (omega arith)).1)
+-- from one row to the one before it
+pub step_back : (w y : ℕ) → 0 < y → (y - 1) * w + w ≡ y * w
+step_back w zero h = absurd (omega arith)
+step_back w (suc y) h = let d : suc y - 1 ≡ y = omega arith in rw d (omega arith)
 
 -- a row, and the one above it
-module _ (w size row : ℕ) (p : 0 < w) (e : row ≡ row / w * w) (h : row < size / w * w) where
-  inside : row / w < size / w
-  inside = row_in w (size / w) row p h
+module _ (w size y : ℕ) (p : 0 < w) (h : y < size / w) where
+  begins : y * w / w ≡ y
+  begins = (spot w (suc y) 0 y (y * w) p (omega arith) (omega arith)).2
 
-  pub fits : row + w ≤ size / w * w
-  fits = omega (arith, mul-le-mul_right w inside)
+  fits : y * w + w ≤ size
+  fits = omega (arith, mul-le-mul_right w h, div-mul-le_self size w)
 
-  pub rows_down : Rows w size (row / w) (row / w - 1) row (row - w)
-  rows_down = record {
-    wide = p;
-    inside = inside;
-    row_is = e;
-    other_is = up (row / w) e;
-    row_fits = omega (arith, fits, div-mul-le_self size w);
-    other_fits = omega (arith, fits, div-mul-le_self size w);
-  }
+  pub rows_down : Rows w size (y * w / w) (y * w / w - 1) (y * w) (y * w - w)
+  rows_down =
+      rw begins (record { wide = p; inside = h; row_is = refl; other_is = up y; row_fits = fits; other_fits = omega (arith, fits) })
     where
-      up : (y : ℕ) → row ≡ y * w → row - w ≡ (y - 1) * w
-      up zero f = omega arith
-      up (suc y) f = let d : suc y - 1 ≡ y = omega arith in rw d (omega arith)
+      up : (y : ℕ) → y * w - w ≡ (y - 1) * w
+      up zero = omega arith
+      up (suc y) = let d : suc y - 1 ≡ y = omega arith in rw d (omega arith)
 
   -- or below it
-  pub rows_back : Rows w size (row / w) (min (row / w + 1) (size / w - 1)) row (min (row + w) (size / w * w - w))
-  rows_back = record {
-    wide = p;
-    inside = inside;
-    row_is = e;
-    other_is = down (row / w) (size / w) e inside (dec_lt (row / w + 1) (size / w));
-    row_fits = omega (arith, fits, div-mul-le_self size w);
-    other_fits = omega (arith, fits, div-mul-le_self size w);
-  }
-    where
-      down : (y k : ℕ) → row ≡ y * w → y < k → Dec (y + 1 < k) → min (row + w) (k * w - w) ≡ min (y + 1) (k - 1) * w
-      down y k f l (yes d) =
-          let m : min (y + 1) (k - 1) ≡ y + 1 = omega arith in
-          let n : (y + 2) * w ≤ k * w = mul-le-mul_right w (omega arith) in
-          rw m (omega arith)
-      down y k f l (no d) =
-          let m : min (y + 1) (k - 1) ≡ y = omega arith in
-          let n : k * w ≡ (y + 1) * w = ap (λ (j : ℕ). j * w) (omega arith) in
-          rw m (omega arith)
+  pub rows_back : Rows w size (y * w / w) (min (y * w / w + 1) (size / w - 1)) (y * w) (min (y + 1) (size / w - 1) * w)
+  rows_back =
+      let below : (min (y + 1) (size / w - 1) + 1) * w ≤ size / w * w = mul-le-mul_right w (omega arith) in
+      rw begins (record {
+        wide = p;
+        inside = h;
+        row_is = refl;
+        other_is = refl;
+        row_fits = fits;
+        other_fits = omega (arith, below, div-mul-le_self size w);
+      })
 
 -- ---- the call
 
@@ -133,25 +111,30 @@ module _ (old : List ℕ) (w : ℕ) where
   abbrev call : DistancesCall
   call = record { cells = old; width = w }
 
-  pub refused : w ≡ 0 → DistancesAnswered call old (record { number = 1; count = 0 })
+  pub refused : leb 1 w ≡ false → DistancesAnswered call old (Err Size)
   unfolding distances_refusal first_fitting
-  refused e = let t = lt-leb 1 w (omega arith) in record { answer = simp t; cells = simp t }
+  refused t = record { answer = simp t; cells = simp t }
 
   -- both passes make the distances
-  pub ran : (n : ℕ) (mid new : List ℕ) → 0 < w → n ≡ whole old w → ((k : ℕ) → get_or new k 0 ≤ 255)
-      → Passed (Down w 0) (Down w n) w old mid → Passed (Back w n n) (Back w n 0) w mid new → DistancesAnswered call new (record { number = 0; count = 0 })
+  pub ran : (mid new : List ℕ) → leb 1 w ≡ true → ((k : ℕ) → get_or new k 0 ≤ 255)
+      → Passed (Down w 0) (Down w (whole old w)) w old mid → Passed (Back w (whole mid w) (whole mid w)) (Back w (whole mid w) 0) w mid new → DistancesAnswered call new (Ok tt)
   unfolding distances_refusal first_fitting
-  ran n mid new z e small f g =
-      let t = le-leb 1 w (omega arith) in
+  ran mid new t small f g =
       let d : new ≡ distances old w = as_table old new w kept.same (exact old new w z kept.low kept.high small smooth) kept.tail in
       record { answer = simp t; cells = simp (t, d) }
     where
+      z : 0 < w
+      z = omega (arith, leb-true 1 w t)
+
+      n : ℕ
+      n = whole old w
+
       down : (Kept old w mid) × (Down w n mid)
       down = f.leads old (record { same = refl; low = nearest_own old w; high = λ k. omega arith; tail = λ k h. refl })
           (record { step = λ p q o t. absurd (omega arith) })
 
       back : (Kept old w new) × (Back w n 0 new)
-      back = g.leads old down.0 (record { step = λ p q o t. down.1.step p q (o.0, ⊎_elim (λ l. absurd (omega arith)) (λ l. l) o.2) t })
+      back = (rw f.same at g).leads old down.0 (record { step = λ p q o t. down.1.step p q (o.0, ⊎_elim (λ l. absurd (omega arith)) (λ l. l) o.2) t })
 
       kept : Kept old w new
       kept = back.0

@@ -9,6 +9,7 @@ ghost use Rattle.calls.specs.Lent.{listed};
 use rules::{Spread, Sums};
 
 // Means, variances and covariance.
+#[tactic(auto, unfolding(rules::specs::Model::spread))]
 pub fn spread(sums: Sums, samples: f32) -> Spread
     ensures { result ≡ spread_of (listed sums) samples }
 {
@@ -24,17 +25,19 @@ pub fn spread(sums: Sums, samples: f32) -> Spread
 }
 
 // The line through the samples.
+#[tactic(auto, unfolding(rules::specs::Model::line))]
 pub fn line(spread: Spread) -> rules::Model
     ensures { result ≡ line_of spread }
 {
     let gain = spread.cov / (spread.vp + 4.0);
     rules::Model {
-        gain: gain,
+        gain,
         offset: spread.mi - gain * spread.mp,
     }
 }
 
 // The mean square error of no change.
+#[tactic(auto, unfolding(rules::specs::Model::same))]
 pub fn same(spread: Spread) -> f32
     ensures { result ≡ same_of spread }
 {
@@ -42,6 +45,7 @@ pub fn same(spread: Spread) -> f32
 }
 
 // The mean square error that gain a leaves.
+#[tactic(auto, unfolding(rules::specs::Model::left))]
 pub fn left(spread: Spread, gain: f32) -> f32
     ensures { result ≡ left_of spread gain }
 {
@@ -52,6 +56,7 @@ pub fn left(spread: Spread, gain: f32) -> f32
 }
 
 // How far the line is trusted.
+#[tactic(auto, unfolding(rules::specs::Model::trust))]
 pub fn trust(same: f32, left: f32, limit: f32, strict: bool) -> f32
     ensures { result ≡ trust_of same left limit strict }
 {
@@ -65,6 +70,7 @@ pub fn trust(same: f32, left: f32, limit: f32, strict: bool) -> f32
 }
 
 // From (1, 0) to the line.
+#[tactic(auto, unfolding(rules::specs::Model::blend))]
 pub fn blend(line: rules::Model, trust: f32) -> rules::Model
     ensures { result ≡ blend_of line trust }
 {
@@ -75,6 +81,7 @@ pub fn blend(line: rules::Model, trust: f32) -> rules::Model
 }
 
 // The model of the sums t over n samples. The limit is squared already.
+#[tactic(auto, unfolding(rules::specs::Model::model))]
 pub fn model(sums: Sums, samples: f32, limit: f32, strict: bool) -> rules::Model
     ensures { result ≡ model_of (listed sums) samples limit strict }
 {
@@ -87,6 +94,7 @@ pub fn model(sums: Sums, samples: f32, limit: f32, strict: bool) -> rules::Model
 }
 
 // The error of a model on the sums t.
+#[tactic(auto, unfolding(rules::specs::Model::error))]
 pub fn error(sums: Sums, samples: f32, model: rules::Model) -> f32
     ensures { result ≡ error_of (listed sums) samples model }
 {
@@ -100,6 +108,7 @@ pub fn error(sums: Sums, samples: f32, model: rules::Model) -> f32
 }
 
 // Whether a model changes a pixel enough.
+#[tactic(auto, unfolding(rules::specs::Model::set))]
 pub fn set(model: rules::Model) -> bool
     ensures { result ≡ set_of model }
 {
@@ -107,6 +116,7 @@ pub fn set(model: rules::Model) -> bool
 }
 
 // The model that changes nothing.
+#[tactic(auto, unfolding(rules::specs::Model::is_plain))]
 pub fn plain(model: rules::Model) -> bool
     ensures { result ≡ is_plain model }
 {

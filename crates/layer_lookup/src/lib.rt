@@ -11,9 +11,9 @@ pub fn cell_of(k: usize, side: usize) -> usize
     requires { IsSide side }
     ensures { result ≡ k / side }
 {
-    if side == 8 {
-        k >> 3
-    } else {
-        if side == 4 { k >> 2 } else { k >> 1 }
+    match side {
+        8 => k >> 3,
+        4 => k >> 2,
+        _ => k >> 1,
     }
 }

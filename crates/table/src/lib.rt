@@ -9,8 +9,7 @@ ghost use Rattle.table.specs.Models.{model_put};
 pub fn cells(size: usize) -> usize
     ensures { result ≡ cells_of size }
 {
-    let whole = layer_lookup::cell_of(size, 8);
-    if whole * 8 == size { whole } else { whole + 1 }
+    size.div_ceil(8)
 }
 
 // A cover of this length has a byte for each cell.
