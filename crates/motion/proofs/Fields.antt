@@ -13,11 +13,22 @@ use Rattle.rules.specs.Reading.{after, held_to}
 use Rattle.rules.specs.Motion.{taps, row_taps, column_taps, step, steps}
 use Rattle.sample.specs.Points.{around}
 use Rattle.motion.specs.declared.Carried.{Carried}
-use Rattle.motion.specs.Moves.{place_of, columns_of, steps_by, Carries, mixed_steps}
+use Rattle.motion.specs.declared.Grid.{Grid}
+use Rattle.plane.specs.Slices.{Slices}
+use Rattle.motion.specs.Moves.{motion_of, laid_out, place_of, columns_of, steps_by, Carries, mixed_steps}
 
 -- a motion number is read back from its bits
 pub back : (z : ℤ) → nat_abs z ≤ 4096 → to_z w32 (of_z w32 z) ≡ z
 back z h = again w32 z (omega arith)
+
+-- the entries around a pixel are the same whatever the fields hold
+pub same_columns : (fields : Slices ℕ) (g : Grid) (ratio x : ℕ) → column_taps (laid_out g) ratio x ≡ column_taps (motion_of fields g) ratio x
+unfolding column_taps
+same_columns fields g ratio x = refl
+
+pub same_rows : (fields : Slices ℕ) (g : Grid) (ratio y : ℕ) → row_taps (laid_out g) ratio y ≡ row_taps (motion_of fields g) ratio y
+unfolding row_taps
+same_rows fields g ratio y = refl
 
 -- what is carried to a place is carried to the same place by another name
 pub to : {m : Motion} {ratio : ℕ} {down across there : Taps} {c : Carried} → across ≡ there → Carries m ratio down across c → Carries m ratio down there c

@@ -23,13 +23,20 @@ pub struct Grid {
     pub pel: i32,
 }
 
-// The motion between two frames: its four fields, what they are laid out by, and the ratio of the plane that it moves.
+// Where a plane's pixels lie in a grid: the grid, and the plane's ratio.
+#[derive(Clone, Copy)]
+pub struct Lattice {
+    pub grid: Grid,
+    pub ratio: usize,
+    pub ghost laid: { Laid grid ratio },
+}
+
+// The motion between two frames, as it moves a plane: its four fields, and where the plane's pixels lie in them.
 #[derive(Clone, Copy)]
 pub struct Motion<'m> {
     pub fields: [&'m [u16]; 4],
-    pub grid: Grid,
-    pub ratio: usize,
-    pub ghost moves: { Moves fields grid ratio },
+    pub lattice: Lattice,
+    pub ghost moves: { Moves fields lattice.grid lattice.ratio },
 }
 
 // The columns of the four fields around a pixel, and the share of the right ones. A block's pixels
@@ -161,12 +168,12 @@ pub fn around(
     }
 }
 
-impl Motion<'_> {
+impl Lattice {
     // The two rows of the grid around a pixel row.
     #[tactic(auto, unfolding(rules::specs::Motion::row_taps))]
     pub fn row_taps(self, y: usize) -> Taps
         requires { y ≤ 4096 }
-        ensures { Within (row_taps (motion_of self.entry.fields self.entry.grid) self.entry.ratio y) self.entry.grid.height result }
+        ensures { Within (row_taps (laid_out self.grid) self.ratio y) self.grid.height result }
     {
         let grid = self.grid;
         let at = float::of_size(y * self.ratio) - of_int(grid.origin_y);
@@ -176,7 +183,7 @@ impl Motion<'_> {
     // A pixel column's place in the grid, held to the entries' middles.
     pub fn column_place(self, x: usize) -> f32
         requires { x ≤ 4096 }
-        ensures { Held (place_of (motion_of self.entry.fields self.entry.grid) self.entry.ratio x) self.entry.grid.width result }
+        ensures { Held (place_of (laid_out self.grid) self.ratio x) self.grid.width result }
     {
         let grid = self.grid;
         let at = float::of_size(x) * float::of_size(self.ratio) - of_int(grid.origin_x);
@@ -187,17 +194,20 @@ impl Motion<'_> {
     #[tactic(auto, unfolding(rules::specs::Motion::column_taps, rules::specs::Motion::taps))]
     pub fn column_taps(self, x: usize) -> Taps
         requires { x ≤ 4096 }
-        ensures { Within (column_taps (motion_of self.entry.fields self.entry.grid) self.entry.ratio x) self.entry.grid.width result }
+        ensures { Within (column_taps (laid_out self.grid) self.ratio x) self.grid.width result }
     {
         sample::between(self.column_place(x), self.grid.width)
     }
+}
 
+impl Motion<'_> {
     // The columns around a pixel between two: those of the pixel before it, where they are the same.
     pub fn carry_to(self, down: Taps, previous: Carried, across: Taps) -> Carried
-        requires rows { Rows self.grid.height down }
-        requires holds { Holds (motion_of self.fields self.grid) self.ratio down previous }
-        requires within { across.first < self.grid.width }
-        ensures { Carries (motion_of self.entry.fields self.entry.grid) self.entry.ratio down across result }
+        requires rows { Rows self.lattice.grid.height down }
+        requires holds { Holds (motion_of self.fields self.lattice.grid) self.lattice.ratio down previous }
+        requires within { across.first < self.lattice.grid.width }
+        ensures { let lattice = self.entry.lattice in
+            Carries (motion_of self.entry.fields lattice.grid) lattice.ratio down across result }
     {
         if across.first == previous.first {
             return Carried {
@@ -205,21 +215,30 @@ impl Motion<'_> {
                 ..previous
             };
         }
-        let fields = self.fields;
+        let Motion { fields, lattice } = self;
         around(
-            fields[0], fields[1], fields[2], fields[3], self.grid, self.ratio, down, across,
+            fields[0],
+            fields[1],
+            fields[2],
+            fields[3],
+            lattice.grid,
+            lattice.ratio,
+            down,
+            across,
         )
     }
 
     // The same of pixel column x.
+    #[tactic(auto, using(crate::proofs::Fields::same_columns))]
     pub fn carry(self, down: Taps, previous: Carried, x: usize) -> Carried
-        requires rows { Rows self.grid.height down }
-        requires holds { Holds (motion_of self.fields self.grid) self.ratio down previous }
+        requires rows { Rows self.lattice.grid.height down }
+        requires holds { Holds (motion_of self.fields self.lattice.grid) self.lattice.ratio down previous }
         requires near { x ≤ 4096 }
-        ensures { let m = motion_of self.entry.fields self.entry.grid in
-            Carries m self.entry.ratio down (column_taps m self.entry.ratio x) result }
+        ensures { let lattice = self.entry.lattice in
+            let m = motion_of self.entry.fields lattice.grid in
+            Carries m lattice.ratio down (column_taps m lattice.ratio x) result }
     {
-        self.carry_to(down, previous, self.column_taps(x))
+        self.carry_to(down, previous, self.lattice.column_taps(x))
     }
 }
 
