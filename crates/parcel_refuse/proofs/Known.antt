@@ -1,5 +1,5 @@
 -- A parcel's records by kind: six of them, each kind once, are all known. Assumes nothing.
-use mathlib.Core.Path.{◌≡◌, refl, sym, ap, ◌∙◌}
+use mathlib.Core.Path.{◌≡◌, refl, ap, ◌∙◌}
 use mathlib.Core.Bool.{Bool, true, false, cond, ◌&&◌}
 use mathlib.Core.List.{List, [], ◌∷◌}
 use Prim.Native.Nat.{ℕ, zero, suc, ◌+◌, ◌-◌, ◌≤◌, ◌<◌}
@@ -129,9 +129,8 @@ first_is parcel six = go (begins_whole parcel) refl (opened parcel)
     go false q e = absurd (omega (arith, six, ap (λ (t : List Record × List ℕ). length t.0) e))
 
 -- so the kinds are right where the first is the head's and each is there once
-pub kinds_are : (parcel : List ℕ) (first : ℕ) (once right : Bool) → length (records parcel) ≡ 6 → first ≡ little 2 parcel 4 → once ≡ once_each (records parcel)
-    → right ≡ (eqb first 1 && once) → kinds_right (records parcel) ≡ right
-kinds_are parcel first once right six f o e = kinds_of_six (records parcel) six ∙ rw ((first_is parcel six).1, ← f, ← o) (sym e)
+pub kinds_are : (parcel : List ℕ) → length (records parcel) ≡ 6 → kinds_right (records parcel) ≡ (eqb (little 2 parcel 4) 1 && once_each (records parcel))
+kinds_are parcel six = kinds_of_six (records parcel) six ∙ rw (first_is parcel six).1
 
 -- ---- payloads
 

@@ -1,11 +1,17 @@
 -- Where the records of a parcel lie, and what is told of it before it is read.
-use Rattle.std.specs.Prelude.{◌≡◌, List, ℕ}
-use Rattle.rules.specs.Forms.{leaves}
-use Rattle.rules.specs.Parcel.{parcel_size, parcel_ratio, parcel_sizes_refusal}
-use Rattle.parcel_records.specs.declared.Place.{Place}
+use Rattle.std.specs.Prelude.{◌≡◌, ◌+◌, List, ℕ, Bool, eqb, Result, IfOk}
+use Rattle.rules.specs.declared.Refusal.{Refusal}
+use Rattle.rules.specs.Host.{little}
+use Rattle.rules.specs.Refusals.{numbered}
+use Rattle.rules.specs.Parcel.{records, how_often, parcel_size, parcel_ratio, parcel_sizes_refusal}
 use Rattle.parcel_records.specs.Steps.{Placed}
+use Rattle.parcel_refuse.specs.declared.Head.{Head}
 use Rattle.parcel_refuse.specs.declared.Places.{Places}
 use Rattle.parcel_refuse.specs.declared.Contents.{Contents}
+
+-- a kind is not repeated or missing
+abbrev pub is_once : (parcel : List ℕ) → (kind : ℕ) → Bool
+is_once parcel kind = eqb (how_often kind (records parcel)) 1
 
 -- the places of the six kinds
 pub record AllPlaced (parcel : List ℕ) (p : Places) : Type 0 where
@@ -16,24 +22,19 @@ pub record AllPlaced (parcel : List ℕ) (p : Places) : Type 0 where
   pub second : Placed parcel 5 p.second
   pub cells : Placed parcel 6 p.cells
 
--- a refusal
-abbrev pub nowhere : Place
-nowhere = record { often = 0; start = 0; length = 0 }
+-- the head whose payload begins at a place
+abbrev pub head_at : (parcel : List ℕ) → (start : ℕ) → Head
+head_at parcel start =
+    record { width = little 2 parcel start; height = little 2 parcel (start + 2); ratio = little 2 parcel (start + 4) }
 
-abbrev pub refused_by : (number : ℕ) → Contents
-refused_by number =
-    record {
-      number = number;
-      width = 0;
-      height = 0;
-      ratio = 0;
-      places = record { head = nowhere; gains = nowhere; offsets = nowhere; first = nowhere; second = nowhere; cells = nowhere };
-    }
+-- what a parcel that is not refused tells: the head's numbers, and its places
+pub record Seen (parcel : List ℕ) (c : Contents) : Type 0 where
+  pub width : c.head.width ≡ (parcel_size parcel).0
+  pub height : c.head.height ≡ (parcel_size parcel).1
+  pub ratio : c.head.ratio ≡ parcel_ratio parcel
+  pub places : AllPlaced parcel c.places
 
--- what is told: the number, the head's numbers, all 0 when refused, and the places of a parcel that is not
-pub record Surveyed (parcel : List ℕ) (s : Contents) : Type 0 where
-  pub number : s.number ≡ parcel_sizes_refusal parcel
-  pub width : s.width ≡ leaves (parcel_sizes_refusal parcel) (parcel_size parcel).0 0
-  pub height : s.height ≡ leaves (parcel_sizes_refusal parcel) (parcel_size parcel).1 0
-  pub ratio : s.ratio ≡ leaves (parcel_sizes_refusal parcel) (parcel_ratio parcel) 0
-  pub places : parcel_sizes_refusal parcel ≡ 0 → AllPlaced parcel s.places
+-- what is told of any
+pub record Surveyed (parcel : List ℕ) (s : Result Contents Refusal) : Type 0 where
+  pub number : numbered s ≡ parcel_sizes_refusal parcel
+  pub seen : IfOk s (λ c. Seen parcel c)

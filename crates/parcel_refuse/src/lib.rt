@@ -1,13 +1,24 @@
 // The tests of a parcel: whether its records are whole, of which kinds they are, and how long their payloads.
 #![tactic(auto)]
 
-ghost use Rattle.std.specs.Prelude.{◌≡◌, ◌&&◌, true, ◌≤◌, length};
+ghost use Rattle.std.specs.Prelude.{◌≡◌, ◌+◌, true, false, ◌≤◌, length, MatchResult};
 ghost use Rattle.rules.specs.Parcel.{records, is_whole, once_each, are_long};
-ghost use Rattle.parcel_refuse.specs.Surveys.{AllPlaced, refused_by, Surveyed};
+ghost use Rattle.parcel_records.specs.Steps.{Placed};
+ghost use Rattle.rules.specs.declared.Refusal.TheVariants.{Kind};
+ghost use Rattle.parcel_refuse.specs.Surveys.{is_once, AllPlaced, head_at, Surveyed};
 
-use parcel_records::{Place, Tally};
+use parcel_records::Place;
+use rules::Refusal;
 
-// Where the first record of each kind lies.
+// The numbers of a parcel's head.
+#[derive(Clone, Copy)]
+pub struct Head {
+    pub width: usize,
+    pub height: usize,
+    pub ratio: usize,
+}
+
+// Where the record of each kind lies.
 #[derive(Clone, Copy)]
 pub struct Places {
     pub head: Place,
@@ -18,139 +29,94 @@ pub struct Places {
     pub cells: Place,
 }
 
-// What a parcel tells before it is read: the number of its refusal, or 0, then its head's three numbers, and its
-// places.
+// What a parcel tells before it is read: its head, and its places.
 #[derive(Clone, Copy)]
 pub struct Contents {
-    pub number: u8,
-    pub width: usize,
-    pub height: usize,
-    pub ratio: usize,
+    pub head: Head,
     pub places: Places,
 }
 
-// The places of the six kinds.
-fn placed(parcel: &[u8]) -> Places
-    ensures { AllPlaced parcel.now result }
+// The place of a kind that is not repeated or missing.
+fn once(parcel: &[u8], kind: usize) -> Result<Place, Refusal>
+    ensures { MatchResult result
+        (λ p. (is_once parcel.now kind ≡ true) × Placed parcel.now kind p)
+        (λ e. (is_once parcel.now kind ≡ false) × (e ≡ Kind)) }
 {
-    Places {
-        head: parcel_records::find(parcel, 1),
-        gains: parcel_records::find(parcel, 2),
-        offsets: parcel_records::find(parcel, 3),
-        first: parcel_records::find(parcel, 4),
-        second: parcel_records::find(parcel, 5),
-        cells: parcel_records::find(parcel, 6),
+    match parcel_records::find(parcel, kind) {
+        Some(place) if place.often == 1 => Ok(place),
+        _ => Err(Refusal::Kind),
     }
 }
 
-// No kind is repeated or missing.
-fn once(parcel: &[u8], places: Places) -> bool
-    requires { AllPlaced parcel.now places }
-    ensures { result ≡ once_each (records parcel.now) }
+// The places of the six kinds.
+#[tactic(auto, unfolding(rules::specs::Forms::all, rules::specs::Forms::turns))]
+fn placed(parcel: &[u8]) -> Result<Places, Refusal>
+    ensures { MatchResult result
+        (λ p. (once_each (records parcel.now) ≡ true) × AllPlaced parcel.now p)
+        (λ e. (once_each (records parcel.now) ≡ false) × (e ≡ Kind)) }
 {
-    let luma = plane::all(
-        places.head.often == 1,
-        places.gains.often == 1,
-        places.offsets.often == 1,
-    );
-    plane::both(
-        plane::all(luma, places.first.often == 1, places.second.often == 1),
-        places.cells.often == 1,
-    )
+    Ok(Places {
+        head: once(parcel, 1)?,
+        gains: once(parcel, 2)?,
+        offsets: once(parcel, 3)?,
+        first: once(parcel, 4)?,
+        second: once(parcel, 5)?,
+        cells: once(parcel, 6)?,
+    })
+}
+
+// The numbers of the head whose payload begins there.
+fn numbers(parcel: &[u8], start: usize) -> Head
+    requires { start + 6 ≤ length parcel.now }
+    ensures { result ≡ head_at parcel.now start }
+{
+    Head {
+        width: parcel_records::two(parcel, start),
+        height: parcel_records::two(parcel, start + 2),
+        ratio: parcel_records::two(parcel, start + 4),
+    }
 }
 
 // Each payload has the length that a head calls for.
-fn long(parcel: &[u8], places: Places, width: usize, height: usize, ratio: usize) -> bool
+#[tactic(auto, unfolding(rules::specs::Forms::all, rules::specs::Forms::turns))]
+fn long(parcel: &[u8], places: Places, head: Head) -> bool
     requires { AllPlaced parcel.now places }
-    ensures { result ≡ are_long (records parcel.now) (width, height) ratio }
+    ensures { result ≡ are_long (records parcel.now) (head.width, head.height) head.ratio }
 {
-    let across = plane::divided(width, ratio);
-    let down = plane::divided(height, ratio);
-    let luma = plane::both(
-        plane::exact(places.gains.length, 2, width, height),
-        plane::exact(places.offsets.length, 2, width, height),
-    );
-    plane::both(
-        plane::all(
-            luma,
-            plane::exact(places.first.length, 2, across, down),
-            plane::exact(places.second.length, 2, across, down),
-        ),
-        plane::exact(
-            places.cells.length,
-            2,
-            table::cells(width),
-            table::cells(height),
-        ),
-    )
-}
-
-// A parcel that is refused.
-fn refused(number: u8) -> Contents
-    ensures { result ≡ refused_by number }
-{
-    let none = Place {
-        often: 0,
-        start: 0,
-        length: 0,
-    };
-    let places = Places {
-        head: none,
-        gains: none,
-        offsets: none,
-        first: none,
-        second: none,
-        cells: none,
-    };
-    Contents {
-        number,
-        width: 0,
-        height: 0,
-        ratio: 0,
-        places,
-    }
+    let across = plane::divided(head.width, head.ratio);
+    let down = plane::divided(head.height, head.ratio);
+    let luma = plane::exact(places.gains.length, 2, head.width, head.height)
+        & plane::exact(places.offsets.length, 2, head.width, head.height);
+    let chroma = plane::exact(places.first.length, 2, across, down)
+        & plane::exact(places.second.length, 2, across, down);
+    let wide = table::cells(head.width);
+    let tall = table::cells(head.height);
+    luma & chroma & plane::exact(places.cells.length, 2, wide, tall)
 }
 
 // A parcel of six whole records.
-fn six(parcel: &[u8]) -> Contents
-    requires { (is_whole parcel.now ≡ true) × (length (records parcel.now) ≡ 6) }
+#[tactic(auto, using(crate::proofs::Told::tests))]
+fn six(parcel: &[u8]) -> Result<Contents, Refusal>
+    requires whole { is_whole parcel.now ≡ true }
+    requires six { length (records parcel.now) ≡ 6 }
     ensures { Surveyed parcel.now result }
 {
-    let places = placed(parcel);
-    let head = parcel_records::two(parcel, 4) == 1;
-    if !plane::both(head, once(parcel, places)) {
-        return refused(10);
-    }
-    if places.head.length != 6 {
-        return refused(11);
-    }
-    let start = places.head.start;
-    let width = parcel_records::two(parcel, start);
-    let height = parcel_records::two(parcel, start + 2);
-    let ratio = parcel_records::two(parcel, start + 4);
-    let right = plane::all(
-        plane::sizes(width, height),
-        plane::ratioed(ratio, width, height),
-        long(parcel, places, width, height, ratio),
-    );
-    if !right {
-        return refused(11);
-    }
-    Contents {
-        number: 0,
-        width,
-        height,
-        ratio,
-        places,
-    }
+    plane::ensure(parcel_records::two(parcel, 4) == 1, Refusal::Kind)?;
+    let places = placed(parcel)?;
+    plane::ensure(places.head.length == 6, Refusal::Payload)?;
+    let head = numbers(parcel, places.head.start);
+    let sizes = plane::sizes(head.width, head.height);
+    let ratio = plane::ratioed(head.ratio, head.width, head.height);
+    plane::ensure(sizes & ratio & long(parcel, places, head), Refusal::Payload)?;
+    Ok(Contents { head, places })
 }
 
 // What a parcel tells. One that has another number of records than six is refused before they are looked for by kind.
-pub fn survey(parcel: &[u8]) -> Contents
+#[tactic(auto, unfolding(rules::specs::Parcel::parcel_sizes_refusal, rules::specs::Refusals::first_fitting), using(crate::proofs::Known::kinds_of_others))]
+pub fn survey(parcel: &[u8]) -> Result<Contents, Refusal>
     ensures { Surveyed parcel.now result }
 {
-    match parcel_records::count(parcel) {
-        Tally::Cut => refused(9),
-        Tally::Records(n) => { if n == 6 { six(parcel) } else { refused(10) } }
-    }
+    let n = parcel_records::count(parcel)?;
+    plane::ensure(n == 6, Refusal::Kind)?;
+    six(parcel)
 }
