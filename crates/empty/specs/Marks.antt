@@ -3,11 +3,11 @@ use Rattle.std.specs.Prelude.{Bool, not, List, [], ℕ, ◌≤◌, ◌<◌, ℤ}
 use Rattle.rules.specs.Forms.{Layer, all, is_number}
 use Rattle.rules.specs.Reading.{cell}
 use Rattle.layer_lent.specs.declared.Plan.{Plan}
-use Rattle.layer_lent.specs.Lent.{lent, holding, ChromaLong, Planned}
+use Rattle.layer_lent.specs.Lent.{holding, ChromaLong, Planned}
 
 -- a layer, of which the cells are read alone
 abbrev pub celled : Plan → List ℤ → List ℕ → Layer
-celled p numbers bytes = holding p.shape [] [] (lent p.shape.packed numbers bytes)
+celled p held = holding p.shape [] [] (marks)
 
 -- the number of this cell is not 0
 abbrev pub unmarked : Layer → (x y : ℕ) → Bool
@@ -22,15 +22,15 @@ abbrev pub rows_unmarked : Layer → (width height : ℕ) → Bool
 rows_unmarked l width height = all height (λ y. row_unmarked l y width)
 
 -- so many cells of a row, in a layer that is not refused
-pub record InRow (p : Plan) (numbers : List ℤ) (bytes : List ℕ) (y width : ℕ) : Type 0 where
+pub record InRow (p : Plan) (marks : List ℤ) (y width : ℕ) : Type 0 where
   pub planned : Planned p
-  pub long : ChromaLong p (lent p.shape.packed numbers bytes)
+  pub long : ChromaLong p (marks)
   pub wide : width ≤ p.shape.chroma_pitch
   pub above : y < p.rows
 
 -- so many rows of them
-pub record InRows (p : Plan) (numbers : List ℤ) (bytes : List ℕ) (width height : ℕ) : Type 0 where
+pub record InRows (p : Plan) (marks : List ℤ) (width height : ℕ) : Type 0 where
   pub planned : Planned p
-  pub long : ChromaLong p (lent p.shape.packed numbers bytes)
+  pub long : ChromaLong p (marks)
   pub wide : width ≤ p.shape.chroma_pitch
   pub tall : height ≤ p.rows

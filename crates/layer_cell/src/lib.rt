@@ -6,10 +6,10 @@ ghost use Rattle.rules.specs.Literals.{0·0, 8·0};
 ghost use Rattle.rules.specs.Float.{◌⊗◌, ◌⊖◌, ◌≼◌, signed};
 ghost use Rattle.rules.specs.Reading.{cell as cell_of, distance as distance_of};
 ghost use Rattle.layer_lookup.specs.Side.{IsSide};
-ghost use Rattle.layer_lent.specs.Lent.{lent, holding, ChromaLong, Planned, Inside};
+ghost use Rattle.layer_lent.specs.Lent.{holding, ChromaLong, Planned, Inside};
 ghost use Rattle.layer_cell.specs.Cells.{CellEnd, CellInside};
 
-use layer_lent::Plan;
+use layer_lent::{Lent, Plan};
 
 // The end of column k's cell, or of the plane.
 pub fn cell_end(k: usize, side: usize, size: usize) -> usize
@@ -21,22 +21,22 @@ pub fn cell_end(k: usize, side: usize, size: usize) -> usize
 }
 
 // The number of the cell in this column and row: the one reader of a stored cell.
-pub fn number(plan: Plan, numbers: &[i16], bytes: &[u8], x: usize, y: usize) -> i16
-    requires { Planned plan × CellInside plan x y × ChromaLong plan (lent plan.shape.packed numbers.now bytes.now) }
-    ensures { result ≡ cell_of (holding plan.shape [] [] (lent plan.shape.packed numbers.now bytes.now)) x y }
+pub fn number<L: Lent>(plan: Plan, layer: L, x: usize, y: usize) -> i16
+    requires { Planned plan × CellInside plan x y × ChromaLong plan (L.held layer 2) }
+    ensures { result ≡ cell_of (holding plan.shape [] [] (L.held layer 2)) x y }
 {
     let k = plane::place(plan.rows + y, plan.shape.chroma_pitch, x);
-    layer_lent::entry(plan.shape.packed, numbers, bytes, k)
+    layer.entry(2, k)
 }
 
 // The distance stored for a pixel.
-pub fn distance(plan: Plan, numbers: &[i16], bytes: &[u8], x: usize, y: usize) -> i16
-    requires { Planned plan × Inside plan x y × ChromaLong plan (lent plan.shape.packed numbers.now bytes.now) }
-    ensures { result ≡ distance_of (holding plan.shape [] [] (lent plan.shape.packed numbers.now bytes.now)) plan.shape.plane x y }
+pub fn distance<L: Lent>(plan: Plan, layer: L, x: usize, y: usize) -> i16
+    requires { Planned plan × Inside plan x y × ChromaLong plan (L.held layer 2) }
+    ensures { result ≡ distance_of (holding plan.shape [] [] (L.held layer 2)) plan.shape.plane x y }
 {
     let column = layer_lookup::cell_of(x, plan.side);
     let row = layer_lookup::cell_of(y, plan.side);
-    number(plan, numbers, bytes, column, row)
+    number(plan, layer, column, row)
 }
 
 // The gap of a stored distance.

@@ -1,40 +1,31 @@
 -- A layer that is lent in one of two forms, as the rules' layer; and what its readers ask.
-use Rattle.std.specs.Prelude.{Bool, cond, ◌≡◌, List, ℕ, ◌*◌, ◌/◌, ◌≤◌, ◌<◌, ℤ, length, eqb}
+use Rattle.std.specs.Prelude.{cond, ◌≡◌, List, ℕ, ◌*◌, ◌/◌, ◌≤◌, ◌<◌, ℤ, length, eqb}
 use Rattle.rules.specs.Forms.{Layer, Plane, Frames}
-use Rattle.rules.specs.Host.{numbers}
 use Rattle.calls.specs.Lent.{plane_of, frames_of, layer_of}
 use Rattle.plane.specs.Slices.{Slices, slice}
 use Rattle.layer_lookup.specs.Side.{IsSide}
 use Rattle.layer_lent.specs.declared.Shape.{Shape}
 use Rattle.layer_lent.specs.declared.Plan.{Plan}
 
--- the numbers of a slice: themselves, or in its bytes
-abbrev pub lent : Bool → List ℤ → List ℕ → List ℤ
-lent packed plain bytes = cond packed (numbers bytes) plain
-
 -- the layer of these numbers
 abbrev pub holding : Shape → (luma first second : List ℤ) → Layer
 holding s luma first second =
     layer_of luma first second s.luma_pitch s.chroma_pitch s.width s.height s.ratio
 
--- slices that are lent as one array: luma, chroma 1, chroma 2; or the frames
+-- the numbers of the three slices: luma's, and those of planes 1 and 2
+abbrev pub Held : Type 0
+Held = ℕ → List ℤ
+
+-- the layer of these slices
+abbrev pub lay : Shape → Held → Layer
+lay s held = holding s (held 0) (held 1) (held 2)
+
+-- slices that are lent as one array: of numbers; of bytes, as the frames
 abbrev pub Numbers : Type 0
 Numbers = Slices ℤ
 
 abbrev pub Bytes : Type 0
 Bytes = Slices ℕ
-
--- the numbers of slice k, in the form that is lent
-abbrev pub part : Shape → Numbers → Bytes → ℕ → List ℤ
-part s numbers bytes k = lent s.packed (slice numbers k) (slice bytes k)
-
--- the layer of these slices
-abbrev pub lay : Shape → Numbers → Bytes → Layer
-lay s numbers bytes = holding s (part s numbers bytes 0) (part s numbers bytes 1) (part s numbers bytes 2)
-
--- the same of slices that are numbers
-abbrev pub of_numbers : Shape → Numbers → Layer
-of_numbers s numbers = holding s (slice numbers 0) (slice numbers 1) (slice numbers 2)
 
 -- the output
 abbrev pub output_by : Shape → List ℕ → Plane
@@ -54,7 +45,6 @@ frames_by s frames = frames_of (first_by s frames) (second_by s frames) s.time
 abbrev pub framed : Shape → (first second : ℕ) → Shape
 framed s first second =
     record {
-      packed = s.packed;
       luma_pitch = s.luma_pitch;
       chroma_pitch = s.chroma_pitch;
       width = s.width;
@@ -115,11 +105,11 @@ LumaLong p l = 2 * (p.shape.luma_pitch * p.shape.height) ≤ length l
 abbrev pub ChromaLong : Plan → List ℤ → Type 0
 ChromaLong p l = 2 * (p.shape.chroma_pitch * p.rows) ≤ length l
 
-pub record Sound (p : Plan) (numbers : Numbers) (bytes : Bytes) : Type 0 where
+pub record Sound (p : Plan) (held : Held) : Type 0 where
   pub planned : Planned p
-  pub luma_long : LumaLong p (part p.shape numbers bytes 0)
-  pub first_long : ChromaLong p (part p.shape numbers bytes 1)
-  pub second_long : ChromaLong p (part p.shape numbers bytes 2)
+  pub luma_long : LumaLong p (held 0)
+  pub first_long : ChromaLong p (held 1)
+  pub second_long : ChromaLong p (held 2)
 
 -- a pixel of the plane
 pub record Inside (p : Plan) (x y : ℕ) : Type 0 where

@@ -1,16 +1,15 @@
 // A layer that is lent as numbers or as little-endian bytes: one body reads both.
 #![tactic(auto)]
 
-ghost use Rattle.std.specs.Prelude.{◌≡◌, ◌+◌, ◌*◌, ◌<◌, pos, length, get_or};
-ghost use Rattle.rules.specs.Host.{signed16};
-ghost use Rattle.layer_lent.specs.Lent.{lent, plan_of};
+ghost use Rattle.std.specs.Prelude.{◌≡◌, ◌+◌, ◌*◌, ◌<◌, List, ℕ, ℤ, pos, length, get_or};
+ghost use Rattle.rules.specs.Host.{signed16, numbers};
+ghost use Rattle.plane.specs.Slices.{slice};
+ghost use Rattle.layer_lent.specs.Lent.{plan_of};
 
 // What a layer is lent with besides its slices, the plane that is worked on, and the numbers of the byte planes over
 // it.
 #[derive(Clone, Copy)]
 pub struct Shape {
-    // The slices are bytes.
-    pub packed: bool,
     pub luma_pitch: usize,
     pub chroma_pitch: usize,
     pub width: usize,
@@ -52,26 +51,69 @@ pub fn joined(low: u8, high: u8) -> i16
     }
 }
 
-// Number k of a slice in either form.
-pub fn entry(packed: bool, numbers: &[i16], bytes: &[u8], k: usize) -> i16
-    requires { k < length (lent packed numbers.now bytes.now) }
-    ensures { result ≡ get_or (lent packed numbers.now bytes.now) k (pos 0) }
+// Number k of a slice.
+fn at(numbers: &[i16], k: usize) -> i16
+    requires { k < length numbers.now }
+    ensures { result ≡ get_or numbers.now k (pos 0) }
 {
-    if packed {
-        joined(bytes[k * 2], bytes[k * 2 + 1])
-    } else {
-        numbers[k]
+    numbers[k]
+}
+
+// Number k of a slice of little-endian bytes.
+fn number(bytes: &[u8], k: usize) -> i16
+    requires { k < length (numbers bytes.now) }
+    ensures { result ≡ get_or (numbers bytes.now) k (pos 0) }
+{
+    joined(bytes[k * 2], bytes[k * 2 + 1])
+}
+
+// How many numbers such a slice has.
+fn count(bytes: &[u8]) -> usize
+    ensures { result ≡ length (numbers bytes.now) }
+{
+    bytes.len() / 2
+}
+
+// The three slices of a layer, luma's and those of planes 1 and 2, in the form that they are lent in.
+pub trait Lent: Copy {
+    // the numbers of each
+    ghost held: { Self → ℕ → List ℤ };
+
+    // Number k of a slice.
+    fn entry(self, slice: usize, k: usize) -> i16
+        requires slice { slice < 3 }
+        requires inside { k < length (held self slice) }
+        ensures { result ≡ get_or (held self slice) k (pos 0) };
+
+    // How many numbers a slice has.
+    fn size(self, slice: usize) -> usize
+        requires { slice < 3 }
+        ensures { result ≡ length (held self slice) };
+}
+
+// Lent as numbers.
+impl<'a> Lent for [&'a [i16]; 3] {
+    ghost held = { slice };
+
+    fn entry(self, slice: usize, k: usize) -> i16 {
+        at(self[slice], k)
+    }
+
+    fn size(self, slice: usize) -> usize {
+        self[slice].len()
     }
 }
 
-// How many numbers a slice in either form has.
-pub fn size(packed: bool, numbers: &[i16], bytes: &[u8]) -> usize
-    ensures { result ≡ length (lent packed numbers.now bytes.now) }
-{
-    if packed {
-        bytes.len() / 2
-    } else {
-        numbers.len()
+// Lent as little-endian bytes, two for each number.
+impl<'a> Lent for [&'a [u8]; 3] {
+    ghost held = { λ bytes k. numbers (slice bytes k) };
+
+    fn entry(self, slice: usize, k: usize) -> i16 {
+        number(self[slice], k)
+    }
+
+    fn size(self, slice: usize) -> usize {
+        count(self[slice])
     }
 }
 

@@ -16,7 +16,7 @@ use Rattle.rules.specs.Literals.{0·0}
 use Rattle.rules.specs.Reading.{texel, mix_models, mixed_model, model_at, sample}
 use Rattle.sample.specs.Points.{around, sampled_row, sampled_at}
 use Rattle.layer_lent.specs.declared.Plan.{Plan}
-use Rattle.layer_lent.specs.Lent.{Numbers, Bytes, part, lay, ratio_of, Planned}
+use Rattle.layer_lent.specs.Lent.{lay, ratio_of, Planned, Held}
 use Rattle.plane.specs.Slices.{slice}
 use Rattle.laws.proofs.Lists.{place_in}
 use Rattle.layer_point.specs.Points.{Lies, LumaFits, luma_at, row_of, point_of}
@@ -66,8 +66,8 @@ luma_in l pitch shift width height x y f left above =
     let g = f.long in
     omega (arith, place_in {w = pitch} {x = x} above (omega arith))
 
-module _ (p : Plan) (numbers : Numbers) (bytes : Bytes) (lies : Lies p numbers bytes) (zero : p.shape.plane ≡ 0) where
-  numbers_are : part p.shape numbers bytes 0 ≡ slice numbers 0
+module _ (p : Plan) (held : Held) (lies : Lies p held) (zero : p.shape.plane ≡ 0) where
+  numbers_are : part p.shape held 0 ≡ slice numbers 0
   numbers_are = rw lies.plain
 
   wide_is : p.across ≡ p.shape.width
@@ -82,7 +82,7 @@ module _ (p : Plan) (numbers : Numbers) (bytes : Bytes) (lies : Lies p numbers b
       let long : 2 * (p.shape.luma_pitch * p.shape.height) ≤ length (slice numbers 0) = rw numbers_are at lies.sound.luma_long in
       rw (wide_is, tall_is) (record { tall = f.tall.1; apart = f.luma_pitch; shifted = omega arith; long = long })
 
-  pub luma_is : (x y : ℕ) → luma_at (slice numbers 0) p.shape.luma_pitch (p.shape.height * p.shape.luma_pitch + 0) x y ≡ texel (lay p.shape numbers bytes) p.shape.plane x y
+  pub luma_is : (x y : ℕ) → luma_at (slice numbers 0) p.shape.luma_pitch (p.shape.height * p.shape.luma_pitch + 0) x y ≡ texel (lay p.shape held) p.shape.plane x y
   unfolding texel
   luma_is x y =
       let h = p.shape.height in

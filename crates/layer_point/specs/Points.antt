@@ -8,16 +8,16 @@ use Rattle.rules.specs.Literals.{0·0}
 use Rattle.rules.specs.Reading.{luma_texel, mix_models}
 use Rattle.sample.specs.Points.{PlaneFits}
 use Rattle.layer_lent.specs.declared.Plan.{Plan}
-use Rattle.layer_lent.specs.Lent.{Numbers, Bytes, Sound}
+use Rattle.layer_lent.specs.Lent.{Sound, Held}
 
 -- a layer of numbers: its bytes are not looked at
-pub record Lies (p : Plan) (numbers : Numbers) (bytes : Bytes) : Type 0 where
-  pub sound : Sound p numbers bytes
+pub record Lies (p : Plan) (held : Held) : Type 0 where
+  pub sound : Sound p held
   pub plain : p.shape.packed ≡ false
 
 -- and a byte plane over the plane that is worked on
-pub record LiesOver (p : Plan) (numbers : Numbers) (bytes : Bytes) (raw : List ℕ) (pitch : ℕ) : Type 0 where
-  pub lies : Lies p numbers bytes
+pub record LiesOver (p : Plan) (held : Held) (raw : List ℕ) (pitch : ℕ) : Type 0 where
+  pub lies : Lies p held
   pub fits : PlaneFits raw pitch p.across p.down
 
 -- two columns, and two rows, of a plane

@@ -6,7 +6,7 @@ ghost use Rattle.rules.specs.Reading.{mix_models, luma_texel, texel as texel_of}
 ghost use Rattle.layer_lent.specs.Lent.{lay};
 ghost use Rattle.layer_point.specs.Points.{Lies, Around, row_of, point_of, LumaFits, luma_at};
 
-use layer_lent::Plan;
+use layer_lent::{Lent, Plan};
 use rules::{Gain, Model, Offset, Taps};
 
 // Two models, mixed by a share.
@@ -71,43 +71,42 @@ fn luma_by(
 }
 
 // Two models of a row of chroma, mixed: at ratio 2 in straight lines.
-fn chroma_row(plan: Plan, numbers: [&[i16]; 3], bytes: [&[u8]; 3], across: Taps, y: usize) -> Model
-    requires { Lies plan numbers bytes × (across.first < plan.across) × (across.second < plan.across) × (y < plan.down) }
-    ensures { result ≡ row_of (texel_of (lay plan.shape numbers.entry bytes.entry) plan.shape.plane) across y }
+fn chroma_row<L: Lent>(plan: Plan, layer: L, across: Taps, y: usize) -> Model
+    requires { Lies plan (L.held layer) × (across.first < plan.across) × (across.second < plan.across) × (y < plan.down) }
+    ensures { result ≡ row_of (texel_of (lay plan.shape (L.held layer)) plan.shape.plane) across y }
 {
     if plan.span == 2 {
-        let left = layer_texel::straight(plan, false, 2, numbers, bytes, across.first, y);
-        let right = layer_texel::straight(plan, false, 2, numbers, bytes, across.second, y);
+        let left = layer_texel::straight(plan, false, 2, layer, across.first, y);
+        let right = layer_texel::straight(plan, false, 2, layer, across.second, y);
         return mix_models(left, right, across.share);
     }
-    let left = layer_texel::texel(plan, numbers, bytes, across.first, y);
-    let right = layer_texel::texel(plan, numbers, bytes, across.second, y);
+    let left = layer_texel::texel(plan, layer, across.first, y);
+    let right = layer_texel::texel(plan, layer, across.second, y);
     mix_models(left, right, across.share)
 }
 
 // The model at a point of chroma.
-fn chroma_by(plan: Plan, numbers: [&[i16]; 3], bytes: [&[u8]; 3], across: Taps, down: Taps) -> Model
-    requires { Lies plan numbers bytes × Around plan.across plan.down across down }
-    ensures { result ≡ point_of (texel_of (lay plan.shape numbers.entry bytes.entry) plan.shape.plane) across down }
+fn chroma_by<L: Lent>(plan: Plan, layer: L, across: Taps, down: Taps) -> Model
+    requires { Lies plan (L.held layer) × Around plan.across plan.down across down }
+    ensures { result ≡ point_of (texel_of (lay plan.shape (L.held layer)) plan.shape.plane) across down }
 {
     if plane::both(across.share == 0.0, down.share == 0.0) {
-        return layer_texel::texel(plan, numbers, bytes, across.first, down.first);
+        return layer_texel::texel(plan, layer, across.first, down.first);
     }
-    let upper = chroma_row(plan, numbers, bytes, across, down.first);
-    let lower = chroma_row(plan, numbers, bytes, across, down.second);
+    let upper = chroma_row(plan, layer, across, down.first);
+    let lower = chroma_row(plan, layer, across, down.second);
     mix_models(upper, lower, down.share)
 }
 
 // The model at a point. Luma's is read in a body of its own, which is small enough to be inlined.
-pub fn model_by(
+pub fn model_by<L: Lent>(
     plan: Plan,
-    numbers: [&[i16]; 3],
-    bytes: [&[u8]; 3],
+    layer: L,
     across: Taps,
     down: Taps,
 ) -> Model
-    requires { Lies plan numbers bytes × Around plan.across plan.down across down }
-    ensures { result ≡ point_of (texel_of (lay plan.shape numbers.entry bytes.entry) plan.shape.plane) across down }
+    requires { Lies plan (L.held layer) × Around plan.across plan.down across down }
+    ensures { result ≡ point_of (texel_of (lay plan.shape (L.held layer)) plan.shape.plane) across down }
 {
     if plan.shape.plane == 0 {
         let pitch = plan.shape.luma_pitch;
@@ -122,6 +121,6 @@ pub fn model_by(
             down,
         )
     } else {
-        chroma_by(plan, numbers, bytes, across, down)
+        chroma_by(plan, layer, across, down)
     }
 }

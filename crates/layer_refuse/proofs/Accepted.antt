@@ -10,7 +10,7 @@ use lib.ListN.{length}
 use Rattle.rules.specs.Domain.{are_sizes, is_ratio, is_pitch, layer_pitches, layer_lengths}
 use Rattle.laws.proofs.Accepted.{both, sizes_in, ratio_in, pitch_in}
 use Rattle.layer_lent.specs.declared.Shape.{Shape}
-use Rattle.layer_lent.specs.Lent.{Numbers, Bytes, part, lay, plan_of, Formed, Sound}
+use Rattle.layer_lent.specs.Lent.{lay, plan_of, Formed, Sound, Held}
 use Rattle.layer_lent.proofs.Plans.{planned_in}
 use Rattle.layer_refuse.specs.Rows.{rows_of}
 
@@ -38,25 +38,25 @@ passed true false c d e f g rest z = absurd (omega arith)
 passed false b c d e f g rest z = absurd (omega arith)
 
 -- what an accepted call may rely on
-pub record Accepted (s : Shape) (numbers : Numbers) (bytes : Bytes) (pitched long : Bool) (rest : ℕ) : Type 0 where
-  pub sound : Sound (plan_of s) numbers bytes
+pub record Accepted (s : Shape) (held : Held) (pitched long : Bool) (rest : ℕ) : Type 0 where
+  pub sound : Sound (plan_of s) held
   pub pitches : pitched ≡ true
   pub lengths : long ≡ true
   pub more : rest ≡ 0
 
-module _ (s : Shape) (numbers : Numbers) (bytes : Bytes) (pitched long : Bool) (rest : ℕ) where
-  pub accepted : rows_of (lay s numbers bytes) s.plane pitched long rest ≡ 0 → Accepted s numbers bytes pitched long rest
+module _ (s : Shape) (held : Held) (pitched long : Bool) (rest : ℕ) where
+  pub accepted : rows_of (lay s held) s.plane pitched long rest ≡ 0 → Accepted s held pitched long rest
   accepted e =
       let w = s.width in
       let h = s.height in
       let r = s.ratio in
-      let t = passed (leb s.plane 2) (are_sizes (w, h)) (is_ratio r (w, h)) (layer_pitches (lay s numbers bytes)) pitched long (layer_lengths (lay s numbers bytes)) rest e in
+      let t = passed (leb s.plane 2) (are_sizes (w, h)) (is_ratio r (w, h)) (layer_pitches (lay s held)) pitched long (layer_lengths (lay s held)) rest e in
       let sizes = sizes_in (w, h) t.second in
       let shrinks = ratio_in (w, h) r sizes t.third in
       let p = both (is_pitch s.luma_pitch w) (is_pitch s.chroma_pitch (w / r)) t.fourth in
-      let nl = leb (2 * (s.luma_pitch * h)) (length (part s numbers bytes 0)) in
-      let na = leb (2 * (s.chroma_pitch * (h / r))) (length (part s numbers bytes 1)) in
-      let q = both (nl && na) (leb (2 * (s.chroma_pitch * (h / r))) (length (part s numbers bytes 2))) t.seventh in
+      let nl = leb (2 * (s.luma_pitch * h)) (length (part s held 0)) in
+      let na = leb (2 * (s.chroma_pitch * (h / r))) (length (part s held 1)) in
+      let q = both (nl && na) (leb (2 * (s.chroma_pitch * (h / r))) (length (part s held 2))) t.seventh in
       let k = both nl na q.0 in
       let formed : Formed s = record {
         wide = sizes.0;

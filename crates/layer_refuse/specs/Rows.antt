@@ -5,14 +5,14 @@ use Rattle.rules.specs.Calls.{PeelCall, UnpeelCall}
 use Rattle.rules.specs.Domain.{are_sizes, is_ratio, is_pitch, is_plane, layer_pitches, layer_lengths, is_time}
 use Rattle.calls.specs.Lent.{peel_call, unpeel_call}
 use Rattle.layer_lent.specs.declared.Shape.{Shape}
-use Rattle.layer_lent.specs.Lent.{Numbers, Bytes, lay, output_by, first_by, frames_by}
+use Rattle.layer_lent.specs.Lent.{Bytes, lay, output_by, first_by, frames_by, Held}
 
 -- a call of peel, which takes the first frame, and of unpeel
-abbrev pub peel_by : Shape → Numbers → Bytes → (output : List ℕ) → (frames : Bytes) → PeelCall
-peel_by s numbers bytes output frames = peel_call (lay s numbers bytes) s.plane (output_by s output) (first_by s frames)
+abbrev pub peel_by : Shape → Held → (output : List ℕ) → (frames : Bytes) → PeelCall
+peel_by s held output frames = peel_call (lay s held) s.plane (output_by s output) (first_by s frames)
 
-abbrev pub unpeel_by : Shape → Numbers → Bytes → (output : List ℕ) → (frames : Bytes) → UnpeelCall
-unpeel_by s numbers bytes output frames = unpeel_call (lay s numbers bytes) s.plane (output_by s output) (frames_by s frames)
+abbrev pub unpeel_by : Shape → Held → (output : List ℕ) → (frames : Bytes) → UnpeelCall
+unpeel_by s held output frames = unpeel_call (lay s held) s.plane (output_by s output) (frames_by s frames)
 
 -- the first fitting number, by what holds of the byte planes' pitches and lengths, and by what the rest says
 abbrev pub rows_of : Layer → (plane : ℕ) → (pitched long : Bool) → (rest : ℕ) → ℕ

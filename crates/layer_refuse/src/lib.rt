@@ -8,7 +8,7 @@ ghost use Rattle.calls.specs.Lent.{plane_of};
 ghost use Rattle.layer_lent.specs.Lent.{lay, output_by, frames_by, ratio_of};
 ghost use Rattle.layer_refuse.specs.Rows.{peel_by, unpeel_by, rows_of, frames_rows_of, time_row_of};
 
-use layer_lent::Shape;
+use layer_lent::{Lent, Shape};
 
 // The layer's pitches.
 fn pitches(shape: Shape) -> bool
@@ -21,24 +21,24 @@ fn pitches(shape: Shape) -> bool
 }
 
 // The layer's lengths.
-fn lengths(shape: Shape, numbers: [&[i16]; 3], bytes: [&[u8]; 3]) -> bool
-    ensures { result ≡ layer_lengths (lay shape numbers.entry bytes.entry) }
+fn lengths<L: Lent>(shape: Shape, layer: L) -> bool
+    ensures { result ≡ layer_lengths (lay shape (L.held layer)) }
 {
     let rows = plane::divided(shape.height, shape.ratio);
     let pitch = shape.chroma_pitch;
     plane::all(
         plane::layered(
-            layer_lent::size(shape.packed, numbers[0], bytes[0]),
+            layer.size(0),
             shape.luma_pitch,
             shape.height,
         ),
         plane::layered(
-            layer_lent::size(shape.packed, numbers[1], bytes[1]),
+            layer.size(1),
             pitch,
             rows,
         ),
         plane::layered(
-            layer_lent::size(shape.packed, numbers[2], bytes[2]),
+            layer.size(2),
             pitch,
             rows,
         ),
@@ -46,20 +46,19 @@ fn lengths(shape: Shape, numbers: [&[i16]; 3], bytes: [&[u8]; 3]) -> bool
 }
 
 // The rows that every call over a layer shares.
-pub fn rows(
+pub fn rows<L: Lent>(
     shape: Shape,
-    numbers: [&[i16]; 3],
-    bytes: [&[u8]; 3],
+    layer: L,
     pitched: bool,
     long: bool,
     rest: u8,
 ) -> u8
-    ensures { result ≡ rows_of (lay shape numbers.entry bytes.entry) shape.plane pitched long rest }
+    ensures { result ≡ rows_of (lay shape (L.held layer)) shape.plane pitched long rest }
 {
     let numbered = shape.plane <= 2;
     let sizes = plane::sizes(shape.width, shape.height);
     let ratio = plane::ratioed(shape.ratio, shape.width, shape.height);
-    let fits = lengths(shape, numbers, bytes);
+    let fits = lengths(shape, layer);
     let fourth = plane::unless(4, long, plane::unless(4, fits, rest));
     let third = plane::unless(3, pitches(shape), plane::unless(3, pitched, fourth));
     plane::unless(
@@ -93,22 +92,21 @@ pub fn over_length(shape: Shape, raw: &[u8], pitch: usize) -> bool
 }
 
 // The number of empty's refusal, or 0: luma, and no byte plane.
-pub fn empty_refusal(shape: Shape, numbers: [&[i16]; 3], bytes: [&[u8]; 3]) -> u8
+pub fn empty_refusal<L: Lent>(shape: Shape, layer: L) -> u8
     requires { shape.plane ≡ 0 }
-    ensures { result ≡ empty_refusal (lay shape numbers.entry bytes.entry) }
+    ensures { result ≡ empty_refusal (lay shape (L.held layer)) }
 {
-    rows(shape, numbers, bytes, true, true, 0)
+    rows(shape, layer, true, true, 0)
 }
 
 // The number of peel's refusal, or 0.
-pub fn peel_refusal(
+pub fn peel_refusal<L: Lent>(
     shape: Shape,
-    numbers: [&[i16]; 3],
-    bytes: [&[u8]; 3],
+    layer: L,
     output: &[u8],
     frames: [&[u8]; 2],
 ) -> u8
-    ensures { result ≡ peel_refusal (peel_by shape numbers.entry bytes.entry output.now frames.entry) }
+    ensures { result ≡ peel_refusal (peel_by shape (L.held layer) output.now frames.entry) }
 {
     let pitched = plane::both(
         over_pitch(shape, shape.output_pitch),
@@ -118,19 +116,18 @@ pub fn peel_refusal(
         over_length(shape, output, shape.output_pitch),
         plane::both(over_length(shape, frames[0], shape.first_pitch), true),
     );
-    rows(shape, numbers, bytes, pitched, long, 0)
+    rows(shape, layer, pitched, long, 0)
 }
 
 // An output and a plane of each frame, and then the rest.
-pub fn frames_rows(
+pub fn frames_rows<L: Lent>(
     shape: Shape,
-    numbers: [&[i16]; 3],
-    bytes: [&[u8]; 3],
+    layer: L,
     output: &[u8],
     frames: [&[u8]; 2],
     rest: u8,
 ) -> u8
-    ensures { result ≡ frames_rows_of (lay shape numbers.entry bytes.entry) shape.plane (output_by shape output.now) (frames_by shape frames.entry) rest }
+    ensures { result ≡ frames_rows_of (lay shape (L.held layer)) shape.plane (output_by shape output.now) (frames_by shape frames.entry) rest }
 {
     let pitched = plane::both(
         over_pitch(shape, shape.output_pitch),
@@ -146,7 +143,7 @@ pub fn frames_rows(
             plane::both(over_length(shape, frames[1], shape.second_pitch), true),
         ),
     );
-    rows(shape, numbers, bytes, pitched, long, rest)
+    rows(shape, layer, pitched, long, rest)
 }
 
 // The row of a time between two frames, which is a table's last.
@@ -157,14 +154,13 @@ pub fn time_row(time: f32) -> u8
 }
 
 // The number of unpeel's refusal, or 0.
-pub fn unpeel_refusal(
+pub fn unpeel_refusal<L: Lent>(
     shape: Shape,
-    numbers: [&[i16]; 3],
-    bytes: [&[u8]; 3],
+    layer: L,
     output: &[u8],
     frames: [&[u8]; 2],
 ) -> u8
-    ensures { result ≡ unpeel_refusal (unpeel_by shape numbers.entry bytes.entry output.now frames.entry) }
+    ensures { result ≡ unpeel_refusal (unpeel_by shape (L.held layer) output.now frames.entry) }
 {
-    frames_rows(shape, numbers, bytes, output, frames, time_row(shape.time))
+    frames_rows(shape, layer, output, frames, time_row(shape.time))
 }

@@ -8,28 +8,28 @@ ghost use Rattle.layer_texel.specs.Fixed.{Fixed};
 ghost use Rattle.lift_rows.specs.Rows.{NearRun};
 ghost use Rattle.lift_count.specs.Counts.{StretchAsks, StretchCounted, RowCounted, Counts};
 
-use layer_lent::Plan;
+use layer_lent::{Lent, Plan};
 use lift_rows::Stretch;
 
 // Whether a pixel is written.
-pub fn writes(plan: Plan, numbers: [&[i16]; 3], bytes: [&[u8]; 3], x: usize, y: usize) -> bool
-    requires { Sound plan numbers bytes × Inside plan x y }
-    ensures { result ≡ layered (lay plan.shape numbers.entry bytes.entry) plan.shape.plane x y }
+pub fn writes<L: Lent>(plan: Plan, layer: L, x: usize, y: usize) -> bool
+    requires { Sound plan (L.held layer) × Inside plan x y }
+    ensures { result ≡ layered (lay plan.shape (L.held layer)) plan.shape.plane x y }
 {
-    let near = layer_cell::near(layer_cell::distance(plan, numbers[2], bytes[2], x, y));
-    let model = layer_texel::texel(plan, numbers, bytes, x, y);
+    let near = layer_cell::near(layer_cell::distance(plan, layer, x, y));
+    let model = layer_texel::texel(plan, layer, x, y);
     plane::both(near, !fit_model::plain(model))
 }
 
 // How many of a stretch, all in near cells, with those before it.
-fn run(plan: Plan, numbers: [&[i16]; 3], bytes: [&[u8]; 3], stretch: Stretch) -> usize
-    requires { Sound plan numbers bytes × StretchAsks plan stretch × NearRun plan (lay plan.shape numbers bytes) stretch }
-    ensures { StretchCounted plan (lay plan.shape numbers.entry bytes.entry) stretch result }
+fn run<L: Lent>(plan: Plan, layer: L, stretch: Stretch) -> usize
+    requires { Sound plan (L.held layer) × StretchAsks plan stretch × NearRun plan (lay plan.shape (L.held layer)) stretch }
+    ensures { StretchCounted plan (lay plan.shape (L.held layer)) stretch result }
 {
     let mut n = stretch.count;
     let mut x = stretch.from;
     while x < stretch.to {
-        let model = layer_texel::texel(plan, numbers, bytes, x, stretch.y);
+        let model = layer_texel::texel(plan, layer, x, stretch.y);
         n += plane::bit(!fit_model::plain(model)) as usize;
         x += 1;
     }
@@ -38,21 +38,20 @@ fn run(plan: Plan, numbers: [&[i16]; 3], bytes: [&[u8]; 3], stretch: Stretch) ->
 
 // The same where a pixel has one gain or four, in straight lines. `luma` and `span` are constants at each call: a loop
 // is compiled for each, with a count as wide as a float.
-fn straight_run(
+fn straight_run<L: Lent>(
     plan: Plan,
     luma: bool,
     span: usize,
-    numbers: [&[i16]; 3],
-    bytes: [&[u8]; 3],
+    layer: L,
     stretch: Stretch,
 ) -> usize
-    requires { Sound plan numbers bytes × StretchAsks plan stretch × NearRun plan (lay plan.shape numbers bytes) stretch × Fixed plan luma span × (span ≤ 2) }
-    ensures { StretchCounted plan (lay plan.shape numbers.entry bytes.entry) stretch result }
+    requires { Sound plan (L.held layer) × StretchAsks plan stretch × NearRun plan (lay plan.shape (L.held layer)) stretch × Fixed plan luma span × (span ≤ 2) }
+    ensures { StretchCounted plan (lay plan.shape (L.held layer)) stretch result }
 {
     let mut n: u32 = 0;
     let mut x = stretch.from;
     while x < stretch.to {
-        let model = layer_texel::straight(plan, luma, span, numbers, bytes, x, stretch.y);
+        let model = layer_texel::straight(plan, luma, span, layer, x, stretch.y);
         n += plane::bit(!fit_model::plain(model)) as u32;
         x += 1;
     }
@@ -60,50 +59,50 @@ fn straight_run(
 }
 
 // Either, in the way that is fast for its plane.
-fn near_run(plan: Plan, numbers: [&[i16]; 3], bytes: [&[u8]; 3], stretch: Stretch) -> usize
-    requires { Sound plan numbers bytes × StretchAsks plan stretch × NearRun plan (lay plan.shape numbers bytes) stretch }
-    ensures { StretchCounted plan (lay plan.shape numbers.entry bytes.entry) stretch result }
+fn near_run<L: Lent>(plan: Plan, layer: L, stretch: Stretch) -> usize
+    requires { Sound plan (L.held layer) × StretchAsks plan stretch × NearRun plan (lay plan.shape (L.held layer)) stretch }
+    ensures { StretchCounted plan (lay plan.shape (L.held layer)) stretch result }
 {
     if plan.shape.plane == 0 {
-        return straight_run(plan, true, 1, numbers, bytes, stretch);
+        return straight_run(plan, true, 1, layer, stretch);
     }
     if plan.span == 2 {
-        return straight_run(plan, false, 2, numbers, bytes, stretch);
+        return straight_run(plan, false, 2, layer, stretch);
     }
-    run(plan, numbers, bytes, stretch)
+    run(plan, layer, stretch)
 }
 
 // How many of a row, with those before it: far cells are passed over, near ones that touch are one stretch.
-fn row(plan: Plan, numbers: [&[i16]; 3], bytes: [&[u8]; 3], y: usize, count: usize) -> usize
-    requires { Sound plan numbers bytes × (y < plan.down) × (count + 4096 < 2 ^ 63) }
-    ensures { RowCounted (lay plan.shape numbers.entry bytes.entry) plan.shape.plane y plan.across count result }
+fn row<L: Lent>(plan: Plan, layer: L, y: usize, count: usize) -> usize
+    requires { Sound plan (L.held layer) × (y < plan.down) × (count + 4096 < 2 ^ 63) }
+    ensures { RowCounted (lay plan.shape (L.held layer)) plan.shape.plane y plan.across count result }
 {
     let mut n = count;
     let mut x = 0;
     while x < plan.across {
-        let from = lift_rows::cells_end(plan, numbers[2], bytes[2], y, x, false);
-        let to = lift_rows::cells_end(plan, numbers[2], bytes[2], y, from, true);
+        let from = lift_rows::cells_end(plan, layer, y, x, false);
+        let to = lift_rows::cells_end(plan, layer, y, from, true);
         let stretch = Stretch {
             y,
             from,
             to,
             count: n,
         };
-        n = near_run(plan, numbers, bytes, stretch);
+        n = near_run(plan, layer, stretch);
         x = to;
     }
     n
 }
 
 // How many of the plane.
-pub fn count(plan: Plan, numbers: [&[i16]; 3], bytes: [&[u8]; 3]) -> usize
-    requires { Sound plan numbers bytes }
-    ensures { Counts (lay plan.shape numbers.entry bytes.entry) plan.shape.plane result }
+pub fn count<L: Lent>(plan: Plan, layer: L) -> usize
+    requires { Sound plan (L.held layer) }
+    ensures { Counts (lay plan.shape (L.held layer)) plan.shape.plane result }
 {
     let mut n = 0;
     let mut y = 0;
     while y < plan.down {
-        n = row(plan, numbers, bytes, y, n);
+        n = row(plan, layer, y, n);
         y += 1;
     }
     n

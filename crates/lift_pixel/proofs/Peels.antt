@@ -17,7 +17,7 @@ use Rattle.rules.specs.Scene.{value, lifted, filled, scene}
 use Rattle.rules.specs.Peel.{layered, peel_rule}
 use Rattle.rules.specs.Unpeel.{unpeel_rule}
 use Rattle.layer_lent.specs.declared.Shape.{Shape}
-use Rattle.layer_lent.specs.Lent.{Numbers, Bytes, lay}
+use Rattle.layer_lent.specs.Lent.{Bytes, lay, Held}
 use Rattle.scene_whole.specs.Rings.{seen}
 use Rattle.scene_whole.proofs.Around.{under_whole}
 use Rattle.lift_pixel.specs.declared.Work.{Work}
@@ -26,11 +26,11 @@ use Rattle.lift_pixel.specs.Works.{rule_of}
 
 -- ---- which are written
 
-pub writes_is : (w : Work) (s : Shape) (numbers : Numbers) (bytes frames : Bytes) (x y : ℕ)
-    → (rule_of w s numbers bytes frames).writes x y ≡ layered (lay s numbers bytes) s.plane x y
+pub writes_is : (w : Work) (s : Shape) (held : Held) (frames : Bytes) (x y : ℕ)
+    → (rule_of w s held frames).writes x y ≡ layered (lay s held) s.plane x y
 unfolding peel_rule unpeel_rule
-writes_is Peel s numbers bytes frames x y = refl
-writes_is Unpeel s numbers bytes frames x y = refl
+writes_is Peel s held frames x y = refl
+writes_is Unpeel s held frames x y = refl
 
 -- by the gap
 pub near_writes : (l : Layer) (plane x y : ℕ) → (gap l plane x y ≼ 0·0) ≡ true → layered l plane x y ≡ not (is_plain (texel l plane x y))
@@ -43,20 +43,20 @@ far_writes l plane x y t = rw t
 
 -- ---- what is done to a pixel of a near cell
 
-module _ (w : Work) (s : Shape) (numbers : Numbers) (bytes frames : Bytes) (x y old : ℕ)
-    (near : (gap (lay s numbers bytes) s.plane x y ≼ 0·0) ≡ true) where
-  pub change_keep : is_plain (texel (lay s numbers bytes) s.plane x y) ≡ true → Keep ≡ change (rule_of w s numbers bytes frames) x y old
+module _ (w : Work) (s : Shape) (held : Held) (frames : Bytes) (x y old : ℕ)
+    (near : (gap (lay s held) s.plane x y ≼ 0·0) ≡ true) where
+  pub change_keep : is_plain (texel (lay s held) s.plane x y) ≡ true → Keep ≡ change (rule_of w s held frames) x y old
   unfolding change
-  change_keep t = sym (simp (writes_is w s numbers bytes frames x y ∙ near_writes (lay s numbers bytes) s.plane x y near, t))
+  change_keep t = sym (simp (writes_is w s held frames x y ∙ near_writes (lay s held) s.plane x y near, t))
 
-  pub change_put : (b : ℕ) → is_plain (texel (lay s numbers bytes) s.plane x y) ≡ false → b ≡ (rule_of w s numbers bytes frames).byte x y old
-      → Put b ≡ change (rule_of w s numbers bytes frames) x y old
+  pub change_put : (b : ℕ) → is_plain (texel (lay s held) s.plane x y) ≡ false → b ≡ (rule_of w s held frames).byte x y old
+      → Put b ≡ change (rule_of w s held frames) x y old
   unfolding change
-  change_put b t e = rw e (sym (simp (writes_is w s numbers bytes frames x y ∙ near_writes (lay s numbers bytes) s.plane x y near, t)))
+  change_put b t e = rw e (sym (simp (writes_is w s held frames x y ∙ near_writes (lay s held) s.plane x y near, t)))
 
   -- by the work that it is
-  pub put_by : (v : Work) → w ≡ v → (b : ℕ) → is_plain (texel (lay s numbers bytes) s.plane x y) ≡ false → b ≡ (rule_of v s numbers bytes frames).byte x y old
-      → Put b ≡ change (rule_of w s numbers bytes frames) x y old
+  pub put_by : (v : Work) → w ≡ v → (b : ℕ) → is_plain (texel (lay s held) s.plane x y) ≡ false → b ≡ (rule_of v s held frames).byte x y old
+      → Put b ≡ change (rule_of w s held frames) x y old
   put_by v e b t is = change_put b t (rw e is)
 
 -- ---- the scene at a pixel

@@ -5,7 +5,7 @@ use Rattle.rules.specs.Peel.{peel_rule}
 use Rattle.rules.specs.Unpeel.{unpeel_rule}
 use Rattle.layer_lent.specs.declared.Plan.{Plan}
 use Rattle.layer_lent.specs.declared.Shape.{Shape}
-use Rattle.layer_lent.specs.Lent.{Numbers, Bytes, lay, first_by, frames_by, Sound}
+use Rattle.layer_lent.specs.Lent.{Bytes, lay, first_by, frames_by, Sound, Held}
 use Rattle.plane.specs.Slices.{slice}
 use Rattle.sample.specs.Points.{PlaneFits}
 use Rattle.lift_pixel.specs.declared.Work.{Work}
@@ -17,14 +17,14 @@ pub record Framed (p : Plan) (frames : Bytes) : Type 0 where
   pub second : PlaneFits (slice frames 1) p.shape.second_pitch p.across p.down
 
 -- and a layer
-pub record Given (p : Plan) (numbers : Numbers) (bytes frames : Bytes) : Type 0 where
-  pub sound : Sound p numbers bytes
+pub record Given (p : Plan) (held : Held) (frames : Bytes) : Type 0 where
+  pub sound : Sound p held
   pub framed : Framed p frames
 
 -- peel looks at the first frame, and unpeel at both
-abbrev pub rule_of : Work → Shape → Numbers → (bytes frames : Bytes) → Rule
-rule_of Peel s numbers bytes frames = peel_rule (lay s numbers bytes) s.plane (first_by s frames)
-rule_of Unpeel s numbers bytes frames = unpeel_rule (lay s numbers bytes) s.plane (frames_by s frames)
+abbrev pub rule_of : Work → Shape → Held → (frames : Bytes) → Rule
+rule_of Peel s held frames = peel_rule (lay s held) s.plane (first_by s frames)
+rule_of Unpeel s held frames = unpeel_rule (lay s held) s.plane (frames_by s frames)
 
 -- whether it is unpeel's
 abbrev pub is_unpeel : Work → Bool

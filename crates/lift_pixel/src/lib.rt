@@ -13,7 +13,7 @@ ghost use Rattle.layer_lent.specs.Lent.{lay, first_by, second_by, Inside};
 ghost use Rattle.scene_whole.specs.Rings.{SoundOver};
 ghost use Rattle.lift_pixel.specs.Works.{Framed, Given, rule_of, is_unpeel};
 
-use layer_lent::Plan;
+use layer_lent::{Lent, Plan};
 use plane::Change;
 use rules::{Model, Scene};
 
@@ -35,23 +35,22 @@ pub fn unpeels(work: Work) -> bool
 }
 
 // The byte of a pixel without the layer.
-fn peeled(
+fn peeled<L: Lent>(
     plan: Plan,
-    numbers: [&[i16]; 3],
-    bytes: [&[u8]; 3],
+    layer: L,
     raw: &[u8],
     pitch: usize,
     x: usize,
     y: usize,
     model: Model,
 ) -> u8
-    requires { SoundOver plan numbers bytes raw.now pitch × Inside plan x y × (model ≡ texel_of (lay plan.shape numbers bytes) plan.shape.plane x y) }
-    ensures { result ≡ pixel (value (scene_of (lay plan.shape numbers.entry bytes.entry) plan.shape.plane (plane_of raw.now pitch) (float x) (float y) true)) }
+    requires { SoundOver plan (L.held layer) raw.now pitch × Inside plan x y × (model ≡ texel_of (lay plan.shape (L.held layer)) plan.shape.plane x y) }
+    ensures { result ≡ pixel (value (scene_of (lay plan.shape (L.held layer)) plan.shape.plane (plane_of raw.now pitch) (float x) (float y) true)) }
 {
     match scene_lift::lifted(sample::at(raw, pitch, x, y), model) {
         Scene::Lifted(shown) => float::pixel(shown),
         Scene::Raw(shown) => {
-            let scene = scene_whole::rings(plan, numbers, bytes, raw, pitch, x, y, shown);
+            let scene = scene_whole::rings(plan, layer, raw, pitch, x, y, shown);
             float::pixel(scene_lift::value(scene))
         }
     }
@@ -68,28 +67,26 @@ fn unpeeled(plan: Plan, frames: [&[u8]; 2], x: usize, y: usize, model: Model, ol
 }
 
 // What is done to a pixel of a near cell.
-pub fn change(
+pub fn change<L: Lent>(
     work: Work,
     plan: Plan,
-    numbers: [&[i16]; 3],
-    bytes: [&[u8]; 3],
+    layer: L,
     frames: [&[u8]; 2],
     x: usize,
     y: usize,
     old: u8,
 ) -> Change
-    requires { Given plan numbers bytes frames × Inside plan x y × ((gap (lay plan.shape numbers bytes) plan.shape.plane x y ≼ 0·0) ≡ true) }
-    ensures { result ≡ change_of (rule_of work plan.shape numbers.entry bytes.entry frames.entry) x y old }
+    requires { Given plan (L.held layer) frames × Inside plan x y × ((gap (lay plan.shape (L.held layer)) plan.shape.plane x y ≼ 0·0) ≡ true) }
+    ensures { result ≡ change_of (rule_of work plan.shape (L.held layer) frames.entry) x y old }
 {
-    let model = layer_texel::texel(plan, numbers, bytes, x, y);
+    let model = layer_texel::texel(plan, layer, x, y);
     if fit_model::plain(model) {
         return Change::Keep;
     }
     match work {
         Work::Peel => Change::Put(peeled(
             plan,
-            numbers,
-            bytes,
+            layer,
             frames[0],
             plan.shape.first_pitch,
             x,

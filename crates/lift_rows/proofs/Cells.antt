@@ -18,7 +18,7 @@ use Rattle.plane.specs.declared.Change.TheVariants.{Keep, Put}
 use Rattle.plane.specs.Done.{change, Stamped}
 use Rattle.plane.proofs.Laws.{tallied_few, row_more, row_skip_run}
 use Rattle.layer_lent.specs.declared.Plan.{Plan}
-use Rattle.layer_lent.specs.Lent.{Numbers, Bytes, part, holding, Planned}
+use Rattle.layer_lent.specs.Lent.{Bytes, holding, Planned, Held}
 use Rattle.lift_pixel.specs.declared.Work.{Work}
 use Rattle.lift_pixel.specs.Works.{rule_of}
 use Rattle.lift_pixel.proofs.Peels.{writes_is, far_writes}
@@ -90,11 +90,11 @@ module _ (p : Plan) (h : Planned p) (second : List ℤ) (y : ℕ) where
       go (no above) = rw (gap_is x k luma first d (end.same k (omega arith) high) is) t
 
   -- far pixels are not written
-  pub far_all : (numbers : Numbers) (bytes frames : Bytes) (w : Work) (from to : ℕ) → second ≡ part p.shape numbers bytes 2 → Alike p second y from false to
-      → (k : ℕ) → from ≤ k → k < to → (rule_of w p.shape numbers bytes frames).writes k y ≡ false
-  far_all numbers bytes frames w from to is far k low high =
-      writes_is w p.shape numbers bytes frames k y
-      ∙ far_writes _ _ k y (rw is at (far (part p.shape numbers bytes 0) (part p.shape numbers bytes 1) k low high))
+  pub far_all : (held : Held) (frames : Bytes) (w : Work) (from to : ℕ) → second ≡ part p.shape held 2 → Alike p second y from false to
+      → (k : ℕ) → from ≤ k → k < to → (rule_of w p.shape held frames).writes k y ≡ false
+  far_all held frames w from to is far k low high =
+      writes_is w p.shape held frames k y
+      ∙ far_writes _ _ k y (rw is at (far (part p.shape held 0) (part p.shape held 1) k low high))
 
   -- after the far cells and the near ones a row is further on
   pub onward : {x from to : ℕ} → CellsTo p second y x false from → CellsTo p second y from true to → x < p.across → x < to

@@ -13,7 +13,7 @@ use Rattle.rules.specs.Calls.{ParcelWriteCall}
 use Rattle.rules.specs.Refusals.{parcel_write_refusal, first_fitting}
 use Rattle.rules.specs.Parcel.{parcel_of}
 use Rattle.layer_lent.specs.declared.Shape.{Shape}
-use Rattle.layer_lent.specs.Lent.{of_numbers, Numbers, Bytes, lay}
+use Rattle.layer_lent.specs.Lent.{of_numbers, lay, Held}
 use Rattle.layer_refuse.proofs.Accepted.{accepted}
 use Rattle.parcel_write.specs.Write.{WriteTold, write_by, Fitting}
 
@@ -23,12 +23,12 @@ none_other true e = refl
 none_other false e = absurd (omega arith)
 
 -- a call that no row refuses
-pub fitting : (s : Shape) (numbers : Numbers) (bytes : Bytes) (parcel : List ℕ) (r : ℕ) → s.packed ≡ false → s.plane ≡ 0
-    → r ≡ parcel_write_refusal (write_by s numbers bytes parcel) → r ≡ 0 → Fitting parcel s numbers
+pub fitting : (s : Shape) (held : Held) (parcel : List ℕ) (r : ℕ) → s.packed ≡ false → s.plane ≡ 0
+    → r ≡ parcel_write_refusal (write_by s held parcel) → r ≡ 0 → Fitting parcel s numbers
 unfolding parcel_write_refusal first_fitting each
-fitting s numbers bytes parcel r packed luma e none =
+fitting s held parcel r packed luma e none =
     let right = eqb (length parcel) (parcel_length (s.width, s.height) s.ratio) in
-    let a = accepted s numbers bytes true true (cond (not right) 4 0) (rw luma (sym e ∙ none)) in
+    let a = accepted s held true true (cond (not right) 4 0) (rw luma (sym e ∙ none)) in
     record {
       formed = a.sound.planned.formed;
       luma_long = rw packed at a.sound.luma_long;
@@ -38,8 +38,8 @@ fitting s numbers bytes parcel r packed luma e none =
     }
 
 -- and the parcel of its layer
-pub numbers_are : (s : Shape) (numbers : Numbers) (bytes : Bytes) → s.packed ≡ false → parcel_of (of_numbers s numbers) ≡ parcel_of (lay s numbers bytes)
-numbers_are s numbers bytes packed = simp packed
+pub numbers_are : (s : Shape) (held : Held) → s.packed ≡ false → parcel_of (of_numbers s numbers) ≡ parcel_of (lay s held)
+numbers_are s held packed = simp packed
 
 -- what is told
 pub refused : (c : ParcelWriteCall) (r : ℕ) → r ≡ parcel_write_refusal c → (r ≡ 0 → ⊥) → WriteTold c c.parcel (uncounted r)

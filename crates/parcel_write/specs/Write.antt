@@ -9,11 +9,11 @@ use Rattle.rules.specs.Parcel.{parcel_write_leaves}
 use Rattle.calls.specs.Lent.{parcel_write_call}
 use Rattle.plane.specs.Slices.{slice}
 use Rattle.layer_lent.specs.declared.Shape.{Shape}
-use Rattle.layer_lent.specs.Lent.{Numbers, Bytes, lay, Formed}
+use Rattle.layer_lent.specs.Lent.{Numbers, lay, Formed, Held}
 
 -- a call of the writer
-abbrev pub write_by : Shape → Numbers → Bytes → (parcel : List ℕ) → ParcelWriteCall
-write_by s numbers bytes parcel = parcel_write_call (lay s numbers bytes) parcel
+abbrev pub write_by : Shape → Held → (parcel : List ℕ) → ParcelWriteCall
+write_by s held parcel = parcel_write_call (lay s held) parcel
 
 -- a layer that is not refused, and an output of its parcel's length
 pub record Fitting (parcel : List ℕ) (s : Shape) (numbers : Numbers) : Type 0 where

@@ -9,7 +9,7 @@ ghost use Rattle.table.specs.Put.{Put};
 ghost use Rattle.layer_lent.specs.Lent.{of_numbers};
 ghost use Rattle.parcel_write.specs.Write.{WriteTold, write_by, Fitting};
 
-use layer_lent::Shape;
+use layer_lent::{Lent, Shape};
 use parcel_put::Run;
 use rules::Answer;
 
@@ -27,13 +27,13 @@ fn exact(size: usize, width: usize, height: usize, ratio: usize) -> bool
 }
 
 // The number of the writer's refusal, or 0.
-pub fn refusal(parcel: &[u8], shape: Shape, numbers: [&[i16]; 3], bytes: [&[u8]; 3]) -> u8
+pub fn refusal<L: Lent>(parcel: &[u8], shape: Shape, layer: L) -> u8
     requires { shape.plane ≡ 0 }
-    ensures { result ≡ parcel_write_refusal (write_by shape numbers.entry bytes.entry parcel.now) }
+    ensures { result ≡ parcel_write_refusal (write_by shape (L.held layer) parcel.now) }
 {
     let long = exact(parcel.len(), shape.width, shape.height, shape.ratio);
     let rest = plane::unless(4, long, 0);
-    layer_refuse::rows(shape, numbers, bytes, true, true, rest)
+    layer_refuse::rows(shape, layer, true, true, rest)
 }
 
 // The head, and luma's two records. It answers the place behind them.
@@ -96,11 +96,11 @@ fn put_layer(parcel: &mut [u8], shape: Shape, numbers: [&[i16]; 3])
 }
 
 // The parcel, or a refusal: the contract is the equation for both. The layer is lent as numbers.
-pub fn write(parcel: &mut [u8], shape: Shape, numbers: [&[i16]; 3], bytes: [&[u8]; 3]) -> Answer
+pub fn write<L: Lent>(parcel: &mut [u8], shape: Shape, layer: L) -> Answer
     requires { (shape.packed ≡ false) × (shape.plane ≡ 0) }
-    ensures { WriteTold (write_by shape numbers.entry bytes.entry parcel.old) parcel.new result }
+    ensures { WriteTold (write_by shape (L.held layer) parcel.old) parcel.new result }
 {
-    let number = refusal(parcel, shape, numbers, bytes);
+    let number = refusal(parcel, shape, layer);
     let answer = Answer { number, count: 0 };
     if number != 0 {
         return answer;

@@ -6,14 +6,14 @@ use Rattle.rules.specs.Peel.{peel_answer, peel_leaves}
 use Rattle.rules.specs.Unpeel.{unpeel_answer, unpeel_leaves}
 use Rattle.rules.specs.declared.Answer.{Answer}
 use Rattle.layer_lent.specs.declared.Shape.{Shape}
-use Rattle.layer_lent.specs.Lent.{Numbers, Bytes, framed}
+use Rattle.layer_lent.specs.Lent.{framed, Held}
 use Rattle.layer_refuse.specs.Rows.{peel_by, unpeel_by}
 
-abbrev pub peel_of : Shape → Numbers → Bytes → (output : List ℕ) → (raw : Bor (List ℕ)) → (pitch : ℕ) → PeelCall
-peel_of s numbers bytes output raw pitch = peel_by (framed s pitch pitch) numbers bytes output (raw ∷ raw ∷ [])
+abbrev pub peel_of : Shape → Held → (output : List ℕ) → (raw : Bor (List ℕ)) → (pitch : ℕ) → PeelCall
+peel_of s held output raw pitch = peel_by (framed s pitch pitch) held output (raw ∷ raw ∷ [])
 
-abbrev pub unpeel_of : Shape → Numbers → Bytes → (output : List ℕ) → (first : Bor (List ℕ)) → (fpitch : ℕ) → (second : Bor (List ℕ)) → (spitch : ℕ) → UnpeelCall
-unpeel_of s numbers bytes output first fpitch second spitch = unpeel_by (framed s fpitch spitch) numbers bytes output (first ∷ second ∷ [])
+abbrev pub unpeel_of : Shape → Held → (output : List ℕ) → (first : Bor (List ℕ)) → (fpitch : ℕ) → (second : Bor (List ℕ)) → (spitch : ℕ) → UnpeelCall
+unpeel_of s held output first fpitch second spitch = unpeel_by (framed s fpitch spitch) held output (first ∷ second ∷ [])
 
 -- its answer, and the bytes of its output; a count is at most that of a plane's pixels
 pub record PlaneAnswered (answer : Answer) (leaves left : List ℕ) (r : Answer) : Type 0 where

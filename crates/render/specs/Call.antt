@@ -5,7 +5,7 @@ use Rattle.rules.specs.Calls.{RenderCall}
 use Rattle.rules.specs.Render.{render_answer, render_leaves}
 use Rattle.calls.specs.Lent.{render_call}
 use Rattle.layer_lent.specs.declared.Shape.{Shape}
-use Rattle.layer_lent.specs.Lent.{Numbers, Bytes, lay, output_by, frames_by}
+use Rattle.layer_lent.specs.Lent.{Bytes, lay, output_by, frames_by, Held}
 use Rattle.motion.specs.declared.Grid.{Grid}
 use Rattle.motion.specs.Moves.{motion_of}
 use Rattle.peel.specs.Call.{PlaneAnswered}
@@ -15,9 +15,9 @@ use Rattle.plane.specs.Slices.{at}
 abbrev pub spare : (frames : Bytes) → Bytes
 spare frames = let first = at frames 0 in first ∷ first ∷ first ∷ []
 
-abbrev pub render_by : Shape → Numbers → Bytes → (output : List ℕ) → (frames fields : Bytes) → Grid → (algo : ℤ) → RenderCall
-render_by s numbers bytes output frames fields g algo =
-    render_call (lay s numbers bytes) s.plane (output_by s output) (frames_by s frames) (motion_of fields g) algo
+abbrev pub render_by : Shape → Held → (output : List ℕ) → (frames fields : Bytes) → Grid → (algo : ℤ) → RenderCall
+render_by s held output frames fields g algo =
+    render_call (lay s held) s.plane (output_by s output) (frames_by s frames) (motion_of fields g) algo
 
 -- the equation, for accepted and refused calls
 pub record Rendered (c : RenderCall) (left : List ℕ) (r : Answer) : Type 0 where

@@ -9,14 +9,14 @@ use Rattle.rules.specs.Scene.{value, lifted}
 use Rattle.rules.specs.Peel.{layered}
 use Rattle.rules.specs.Render.{moved, between, base, composed}
 use Rattle.layer_lent.specs.declared.Plan.{Plan}
-use Rattle.layer_lent.specs.Lent.{Numbers, Bytes}
+use Rattle.layer_lent.specs.Lent.{Bytes, Held}
 use Rattle.plane.specs.Slices.{slice}
 use Rattle.layer_point.specs.Points.{LiesOver}
 
 -- one plane of each frame, over a layer
-pub record Framed (p : Plan) (numbers : Numbers) (bytes frames : Bytes) : Type 0 where
-  pub first_ready : LiesOver p numbers bytes (slice frames 0) p.shape.first_pitch
-  pub second_ready : LiesOver p numbers bytes (slice frames 1) p.shape.second_pitch
+pub record Framed (p : Plan) (held : Held) (frames : Bytes) : Type 0 where
+  pub first_ready : LiesOver p held (slice frames 0) p.shape.first_pitch
+  pub second_ready : LiesOver p held (slice frames 1) p.shape.second_pitch
   pub first_small : (k : ℕ) → get_or (slice frames 0) k 0 ≤ 255
   pub second_small : (k : ℕ) → get_or (slice frames 1) k 0 ≤ 255
 

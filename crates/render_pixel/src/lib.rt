@@ -11,7 +11,7 @@ ghost use Rattle.layer_lent.specs.Lent.{lay, frames_by, Inside};
 ghost use Rattle.layer_point.specs.Points.{LiesOver};
 ghost use Rattle.render_pixel.specs.Shown.{Framed, base_by, seen_by, byte_by};
 
-use layer_lent::Plan;
+use layer_lent::{Lent, Plan};
 use rules::{Model, Moved, Steps};
 
 // A pixel of the plane.
@@ -22,28 +22,27 @@ pub struct Spot {
 }
 
 // What a frame shows at a pixel that moves. The model and the sample there are taken once.
-fn moved(
+fn moved<L: Lent>(
     plan: Plan,
-    numbers: [&[i16]; 3],
-    bytes: [&[u8]; 3],
+    layer: L,
     raw: &[u8],
     pitch: usize,
     spot: Spot,
     dx: f32,
     dy: f32,
 ) -> Moved
-    requires { LiesOver plan numbers bytes raw.now pitch × Inside plan spot.x spot.y }
-    ensures { result ≡ moved_of (lay plan.shape numbers.entry bytes.entry) plan.shape.plane (plane_of raw.now pitch) spot.x spot.y dx dy }
+    requires { LiesOver plan (L.held layer) raw.now pitch × Inside plan spot.x spot.y }
+    ensures { result ≡ moved_of (lay plan.shape (L.held layer)) plan.shape.plane (plane_of raw.now pitch) spot.x spot.y dx dy }
 {
     let u = sample::shifted(spot.x, dx, plan.across);
     let v = sample::shifted(spot.y, dy, plan.down);
     let across = sample::between(u, plan.across);
     let down = sample::between(v, plan.down);
-    let model = layer_point::model_by(plan, numbers, bytes, across, down);
+    let model = layer_point::model_by(plan, layer, across, down);
     let value = sample::sample_at(raw, pitch, across, down, plan.across, plan.down);
     let under = scene_lift::lifted(value, model);
     Moved {
-        scene: scene_between::filled(plan, numbers, bytes, raw, pitch, u, v, under),
+        scene: scene_between::filled(plan, layer, raw, pitch, u, v, under),
         on: render_choice::is_on(model),
         raw: value,
     }
@@ -59,46 +58,44 @@ fn base(model: Model, first: f32, second: f32, time: f32) -> f32
 }
 
 // The scene chosen for a pixel.
-fn seen(
+fn seen<L: Lent>(
     plan: Plan,
-    numbers: [&[i16]; 3],
-    bytes: [&[u8]; 3],
+    layer: L,
     frames: [&[u8]; 2],
     steps: Steps,
     base: f32,
     algo: i32,
     spot: Spot,
 ) -> f32
-    requires { Framed plan numbers bytes frames × Inside plan spot.x spot.y }
-    ensures { result ≡ seen_by (lay plan.shape numbers.entry bytes.entry) plan.shape.plane (frames_by plan.shape frames.entry) steps base algo spot.x spot.y }
+    requires { Framed plan (L.held layer) frames × Inside plan spot.x spot.y }
+    ensures { result ≡ seen_by (lay plan.shape (L.held layer)) plan.shape.plane (frames_by plan.shape frames.entry) steps base algo spot.x spot.y }
 {
     let first = plan.shape.first_pitch;
     let second = plan.shape.second_pitch;
     let early = moved(
-        plan, numbers, bytes, frames[0], first, spot, steps.fx, steps.fy,
+        plan, layer, frames[0], first, spot, steps.fx, steps.fy,
     );
     let late = moved(
-        plan, numbers, bytes, frames[1], second, spot, steps.bx, steps.by,
+        plan, layer, frames[1], second, spot, steps.bx, steps.by,
     );
     render_choice::between(early, late, base, algo)
 }
 
 // The byte of a pixel. Where its own bytes are mixed, the frames are looked at nowhere else.
-pub fn composed(
+pub fn composed<L: Lent>(
     plan: Plan,
-    numbers: [&[i16]; 3],
-    bytes: [&[u8]; 3],
+    layer: L,
     frames: [&[u8]; 2],
     steps: Steps,
     near: bool,
     algo: i32,
     spot: Spot,
 ) -> u8
-    requires { Framed plan numbers bytes frames × Inside plan spot.x spot.y × (near ≡ (gap (lay plan.shape numbers bytes) plan.shape.plane spot.x spot.y ≼ 0·0)) }
-    ensures { result ≡ byte_by (lay plan.shape numbers.entry bytes.entry) plan.shape.plane (frames_by plan.shape frames.entry) steps algo spot.x spot.y }
+    requires { Framed plan (L.held layer) frames × Inside plan spot.x spot.y × (near ≡ (gap (lay plan.shape (L.held layer)) plan.shape.plane spot.x spot.y ≼ 0·0)) }
+    ensures { result ≡ byte_by (lay plan.shape (L.held layer)) plan.shape.plane (frames_by plan.shape frames.entry) steps algo spot.x spot.y }
 {
     let time = plan.shape.time;
-    let model = layer_texel::texel(plan, numbers, bytes, spot.x, spot.y);
+    let model = layer_texel::texel(plan, layer, spot.x, spot.y);
     let early = sample::at(frames[0], plan.shape.first_pitch, spot.x, spot.y);
     let late = sample::at(frames[1], plan.shape.second_pitch, spot.x, spot.y);
     if render_choice::kept(
@@ -110,6 +107,6 @@ pub fn composed(
         return float::pixel(float::mix(early, late, time));
     }
     let base = base(model, early, late, time);
-    let scene = seen(plan, numbers, bytes, frames, steps, base, algo, spot);
+    let scene = seen(plan, layer, frames, steps, base, algo, spot);
     float::pixel(model.gain * scene + model.offset)
 }

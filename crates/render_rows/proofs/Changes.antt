@@ -17,7 +17,7 @@ use Rattle.plane.specs.Done.{change}
 use Rattle.render_choice.specs.Kept.{is_within}
 use Rattle.render_pixel.specs.Shown.{seen_by, byte_by}
 use Rattle.layer_lent.specs.declared.Plan.{Plan}
-use Rattle.layer_lent.specs.Lent.{Numbers, Bytes, holding, Planned}
+use Rattle.layer_lent.specs.Lent.{Bytes, holding, Planned, Held}
 use Rattle.layer_lent.proofs.Plans.{span_is}
 use Rattle.layer_cell.specs.Cells.{CellEnd}
 use Rattle.motion.specs.declared.Carried.{Carried}
@@ -49,27 +49,27 @@ module _ (l : Layer) (plane : ℕ) (f : Frames) (m : Motion) (algo : ℤ) (x y :
 
 -- ---- by the stored distance, and by the columns that are carried
 
-module _ (j : Job) (numbers : Numbers) (bytes frames fields : Bytes) (w : Works j numbers bytes frames fields) where
+module _ (j : Job) (held : Held) (frames fields : Bytes) (w : Works j held frames fields) where
   -- pixels with one stored distance lie within `far`, or beyond it
-  gap-far : (x y : ℕ) (d : ℤ) (t : Bool) → distance (layer_in j numbers bytes) j.plan.shape.plane x y ≡ d → is_within (gap_of d) j.far ≡ t
-      → is_within (gap (layer_in j numbers bytes) j.plan.shape.plane x y) (far (motion_in j fields)) ≡ t
+  gap-far : (x y : ℕ) (d : ℤ) (t : Bool) → distance (layer_in j held) j.plan.shape.plane x y ≡ d → is_within (gap_of d) j.far ≡ t
+      → is_within (gap (layer_in j held) j.plan.shape.plane x y) (far (motion_in j fields)) ≡ t
   unfolding gap
   gap-far x y d t e h = rw (e, ← w.far_is) h
 
-  pub pixel_is : (x y old : ℕ) (d : ℤ) (down : Taps) (c : Carried) (t s : Steps) → Near j (layer_in j numbers bytes) y x (x + 1) d
+  pub pixel_is : (x y old : ℕ) (d : ℤ) (down : Taps) (c : Carried) (t s : Steps) → Near j (layer_in j held) y x (x + 1) d
       → down ≡ row_taps (motion_in j fields) j.plan.span y
       → Carries (motion_in j fields) j.plan.span down (column_taps (motion_in j fields) j.plan.span x) c → t ≡ mixed_steps c → s ≡ timed j.plan.shape.time t
-      → change_by (layer_in j numbers bytes) j.plan.shape.plane (frames_in j frames) j.plan.span s (gap (layer_in j numbers bytes) j.plan.shape.plane x y) j.algo x y
-      ≡ change (rule_in j numbers bytes frames fields) x y old
+      → change_by (layer_in j held) j.plan.shape.plane (frames_in j frames) j.plan.span s (gap (layer_in j held) j.plan.shape.plane x y) j.algo x y
+      ≡ change (rule_in j held frames fields) x y old
   unfolding own_steps
   pixel_is x y old d down c t s near rows carries mixed so =
       let m = motion_in j fields in
       let r = span_is j.plan w.framed.first_ready.lies.sound.planned in
       let own = so ∙ ap (timed j.plan.shape.time) (mixed ∙ carried_steps m j.plan.span x y c (rw rows at carries)) in
-      rw r (change_is (layer_in j numbers bytes) j.plan.shape.plane (frames_in j frames) m j.algo x y old s (rw r at own) (gap-far x y d true (near.one x (omega arith) (omega arith)) near.near))
+      rw r (change_is (layer_in j held) j.plan.shape.plane (frames_in j frames) m j.algo x y old s (rw r at own) (gap-far x y d true (near.one x (omega arith) (omega arith)) near.near))
 
-  pub far_cell : (y from to : ℕ) (d : ℤ) → ((k : ℕ) → from ≤ k → k < to → distance (layer_in j numbers bytes) j.plan.shape.plane k y ≡ d)
-      → is_within (gap_of d) j.far ≡ false → (k : ℕ) → from ≤ k → k < to → (rule_in j numbers bytes frames fields).writes k y ≡ false
+  pub far_cell : (y from to : ℕ) (d : ℤ) → ((k : ℕ) → from ≤ k → k < to → distance (layer_in j held) j.plan.shape.plane k y ≡ d)
+      → is_within (gap_of d) j.far ≡ false → (k : ℕ) → from ≤ k → k < to → (rule_in j held frames fields).writes k y ≡ false
   far_cell y from to d one t k low high = far_is _ _ _ _ _ k y (gap-far k y d false (one k low high) t)
 
 -- a part of a part

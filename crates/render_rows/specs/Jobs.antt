@@ -14,7 +14,7 @@ use Rattle.plane.specs.declared.Change.TheVariants.{Keep, Put}
 use Rattle.sample.specs.Points.{Within}
 use Rattle.motion.specs.declared.Carried.{Carried}
 use Rattle.motion.specs.Moves.{motion_of, Moves, Holds}
-use Rattle.layer_lent.specs.Lent.{Numbers, Bytes, lay, frames_by}
+use Rattle.layer_lent.specs.Lent.{Bytes, lay, frames_by, Held}
 use Rattle.render_choice.specs.Kept.{is_within}
 use Rattle.render_pixel.specs.Shown.{Framed, byte_by}
 use Rattle.render_rows.specs.declared.Job.{Job}
@@ -24,8 +24,8 @@ use Rattle.render_rows.specs.declared.Run.{Run}
 use Rattle.lift_rows.specs.Rows.{RowOn, RunAsks}
 
 -- the layer, the frames and the motion of a job
-abbrev pub layer_in : Job → Numbers → Bytes → Layer
-layer_in j numbers bytes = lay j.plan.shape numbers bytes
+abbrev pub layer_in : Job → Held → Layer
+layer_in j held = lay j.plan.shape held
 
 abbrev pub frames_in : Job → (frames : Bytes) → Frames
 frames_in j frames = frames_by j.plan.shape frames
@@ -34,12 +34,12 @@ abbrev pub motion_in : Job → (fields : Bytes) → Motion
 motion_in j fields = motion_of fields j.grid
 
 -- and its rule
-abbrev pub rule_in : Job → Numbers → (bytes frames fields : Bytes) → Rule
-rule_in j numbers bytes frames fields = render_rule (layer_in j numbers bytes) j.plan.shape.plane (frames_in j frames) (motion_in j fields) j.algo
+abbrev pub rule_in : Job → Held → (frames fields : Bytes) → Rule
+rule_in j held frames fields = render_rule (layer_in j held) j.plan.shape.plane (frames_in j frames) (motion_in j fields) j.algo
 
 -- a job that is not refused
-pub record Works (j : Job) (numbers : Numbers) (bytes frames fields : Bytes) : Type 0 where
-  pub framed : Framed j.plan numbers bytes frames
+pub record Works (j : Job) (held : Held) (frames fields : Bytes) : Type 0 where
+  pub framed : Framed j.plan held frames
   pub moves : Moves fields j.grid j.plan.span
   pub far_is : j.far ≡ far (motion_in j fields)
 
@@ -47,12 +47,12 @@ pub record Works (j : Job) (numbers : Numbers) (bytes frames fields : Bytes) : T
 unfoldable pub change_by : Layer → (plane : ℕ) → Frames → (ratio : ℕ) → Steps → (apart : Float) → (algo : ℤ) → (x y : ℕ) → Change
 change_by l plane f ratio s apart algo x y = cond (is_within apart (reach ratio s)) (Put (byte_by l plane f s algo x y)) Keep
 
-abbrev pub distance_in : Job → Numbers → Bytes → (x y : ℕ) → ℤ
-distance_in j numbers bytes x y = distance (layer_in j numbers bytes) j.plan.shape.plane x y
+abbrev pub distance_in : Job → Held → (x y : ℕ) → ℤ
+distance_in j held x y = distance (layer_in j held) j.plan.shape.plane x y
 
-abbrev pub change_in : Job → Numbers → (bytes frames : Bytes) → Steps → (x y : ℕ) → Change
-change_in j numbers bytes frames s x y =
-    let l = layer_in j numbers bytes in change_by l j.plan.shape.plane (frames_in j frames) j.plan.span s (gap l j.plan.shape.plane x y) j.algo x y
+abbrev pub change_in : Job → Held → (frames : Bytes) → Steps → (x y : ℕ) → Change
+change_in j held frames s x y =
+    let l = layer_in j held in change_by l j.plan.shape.plane (frames_in j frames) j.plan.span s (gap l j.plan.shape.plane x y) j.algo x y
 
 -- the gap of a stored distance
 abbrev pub gap_of : ℤ → Float
@@ -89,18 +89,18 @@ Holding j fields y down run = Carrying (motion_in j fields) j.plan.span y down r
 abbrev pub PieceHolds : Job → (fields : Bytes) → Piece → Run → Type 0
 PieceHolds j fields p run = Holding j fields p.y p.down run
 
-abbrev pub PieceNear : Job → Numbers → Bytes → Piece → (d : ℤ) → Type 0
-PieceNear j numbers bytes p d = Near j (layer_in j numbers bytes) p.y p.from p.to d
+abbrev pub PieceNear : Job → Held → Piece → (d : ℤ) → Type 0
+PieceNear j held p d = Near j (layer_in j held) p.y p.from p.to d
 
-abbrev pub PieceDone : Job → Numbers → (bytes frames fields : Bytes) → Piece → (count : ℕ) → (before after : List ℕ) → Run → Type 0
-PieceDone j numbers bytes frames fields p count before after r =
-    RunDone (rule_in j numbers bytes frames fields) j.plan.shape.output_pitch p.y p.from p.to (motion_in j fields) j.plan.span p.down count before after r
+abbrev pub PieceDone : Job → Held → (frames fields : Bytes) → Piece → (count : ℕ) → (before after : List ℕ) → Run → Type 0
+PieceDone j held frames fields p count before after r =
+    RunDone (rule_in j held frames fields) j.plan.shape.output_pitch p.y p.from p.to (motion_in j fields) j.plan.span p.down count before after r
 
 -- a row, and all rows
-abbrev pub RowIn : Job → Numbers → (bytes frames fields : Bytes) → (y count : ℕ) → (before after : List ℕ) → (r : ℕ) → Type 0
-RowIn j numbers bytes frames fields y count before after r =
-    RowDone (rule_in j numbers bytes frames fields) j.plan.shape.output_pitch y j.plan.across count before after r
+abbrev pub RowIn : Job → Held → (frames fields : Bytes) → (y count : ℕ) → (before after : List ℕ) → (r : ℕ) → Type 0
+RowIn j held frames fields y count before after r =
+    RowDone (rule_in j held frames fields) j.plan.shape.output_pitch y j.plan.across count before after r
 
-abbrev pub RowsIn : Job → Numbers → (bytes frames fields : Bytes) → (before after : List ℕ) → (r : ℕ) → Type 0
-RowsIn j numbers bytes frames fields before after r =
-    RowsDone (rule_in j numbers bytes frames fields) j.plan.across j.plan.down j.plan.shape.output_pitch before after r
+abbrev pub RowsIn : Job → Held → (frames fields : Bytes) → (before after : List ℕ) → (r : ℕ) → Type 0
+RowsIn j held frames fields before after r =
+    RowsDone (rule_in j held frames fields) j.plan.across j.plan.down j.plan.shape.output_pitch before after r

@@ -9,7 +9,7 @@ ghost use Rattle.render_pixel.specs.Shown.{Framed};
 ghost use Rattle.lift_rows.specs.Rows.{RowAsks, RowsAsk};
 ghost use Rattle.render_rows.specs.Jobs.{distance_in, Works, change_in, only, PieceAsks, Holding, PieceHolds, PieceNear, PieceDone, RowIn, RowsIn};
 
-use layer_lent::Plan;
+use layer_lent::{Lent, Plan};
 use motion::{Carried, Grid};
 use plane::Change;
 use render_pixel::Spot;
@@ -49,23 +49,22 @@ struct Piece {
 }
 
 // What is done to a pixel that moves by these steps.
-fn render_change(
+fn render_change<L: Lent>(
     job: Job,
-    numbers: [&[i16]; 3],
-    bytes: [&[u8]; 3],
+    layer: L,
     frames: [&[u8]; 2],
     steps: Steps,
     distance: i16,
     spot: Spot,
 ) -> Change
-    requires { Framed job.plan numbers bytes frames × Inside job.plan spot.x spot.y × (distance ≡ distance_in job numbers bytes spot.x spot.y) }
-    ensures { result ≡ change_in job numbers.entry bytes.entry frames.entry steps spot.x spot.y }
+    requires { Framed job.plan (L.held layer) frames × Inside job.plan spot.x spot.y × (distance ≡ distance_in job (L.held layer) spot.x spot.y) }
+    ensures { result ≡ change_in job (L.held layer) frames.entry steps spot.x spot.y }
 {
     let plan = job.plan;
     if render_choice::reached(layer_cell::gap(distance), plan.span, steps) {
         let near = layer_cell::near(distance);
         Change::Put(render_pixel::composed(
-            plan, numbers, bytes, frames, steps, near, job.algo, spot,
+            plan, layer, frames, steps, near, job.algo, spot,
         ))
     } else {
         Change::Keep
@@ -73,20 +72,19 @@ fn render_change(
 }
 
 // One pixel.
-fn render_pixel(
+fn render_pixel<L: Lent>(
     output: &mut [u8],
     job: Job,
-    numbers: [&[i16]; 3],
-    bytes: [&[u8]; 3],
+    layer: L,
     frames: [&[u8]; 2],
     fields: [&[u16]; 4],
     run: Run,
     distance: i16,
     place: Place,
 ) -> Run
-    requires { Works job numbers bytes frames fields × PieceAsks job output.old (only place) run.count
-        × PieceHolds job fields (only place) run × PieceNear job numbers bytes (only place) distance }
-    ensures { PieceDone job numbers.entry bytes.entry frames.entry fields.entry (only place) run.count output.old output.new result }
+    requires { Works job (L.held layer) frames fields × PieceAsks job output.old (only place) run.count
+        × PieceHolds job fields (only place) run × PieceNear job (L.held layer) (only place) distance }
+    ensures { PieceDone job (L.held layer) frames.entry fields.entry (only place) run.count output.old output.new result }
 {
     let plan = job.plan;
     let carried = motion::carry(
@@ -102,26 +100,25 @@ fn render_pixel(
         x: place.x,
         y: place.y,
     };
-    let change = render_change(job, numbers, bytes, frames, steps, distance, spot);
+    let change = render_change(job, layer, frames, steps, distance, spot);
     let k = plane::place(place.y, plan.shape.output_pitch, place.x);
     let count = plane::stamp(output, k, change, run.count);
     Run { count, carried }
 }
 
 // The pixels of a piece, with one stored distance.
-fn render_run(
+fn render_run<L: Lent>(
     output: &mut [u8],
     job: Job,
-    numbers: [&[i16]; 3],
-    bytes: [&[u8]; 3],
+    layer: L,
     frames: [&[u8]; 2],
     fields: [&[u16]; 4],
     run: Run,
     distance: i16,
     piece: Piece,
 ) -> Run
-    requires { Works job numbers bytes frames fields × PieceAsks job output.old piece run.count × PieceHolds job fields piece run × PieceNear job numbers bytes piece distance }
-    ensures { PieceDone job numbers.entry bytes.entry frames.entry fields.entry piece run.count output.old output.new result }
+    requires { Works job (L.held layer) frames fields × PieceAsks job output.old piece run.count × PieceHolds job fields piece run × PieceNear job (L.held layer) piece distance }
+    ensures { PieceDone job (L.held layer) frames.entry fields.entry piece run.count output.old output.new result }
 {
     let mut last = run;
     let mut x = piece.from;
@@ -133,7 +130,7 @@ fn render_run(
             down,
         };
         last = render_pixel(
-            output, job, numbers, bytes, frames, fields, last, distance, place,
+            output, job, layer, frames, fields, last, distance, place,
         );
         x += 1;
     }
@@ -141,25 +138,24 @@ fn render_run(
 }
 
 // The pixels of a piece in one cell. A far cell is passed over, and no step is reckoned.
-fn render_cell(
+fn render_cell<L: Lent>(
     output: &mut [u8],
     job: Job,
-    numbers: [&[i16]; 3],
-    bytes: [&[u8]; 3],
+    layer: L,
     frames: [&[u8]; 2],
     fields: [&[u16]; 4],
     run: Run,
     piece: Piece,
 ) -> Run
-    requires { Works job numbers bytes frames fields × PieceAsks job output.old piece run.count
+    requires { Works job (L.held layer) frames fields × PieceAsks job output.old piece run.count
         × PieceHolds job fields piece run × CellEnd piece.from job.plan.side job.plan.across piece.to }
-    ensures { PieceDone job numbers.entry bytes.entry frames.entry fields.entry piece run.count output.old output.new result }
+    ensures { PieceDone job (L.held layer) frames.entry fields.entry piece run.count output.old output.new result }
 {
     let plan = job.plan;
-    let distance = layer_cell::distance(plan, numbers[2], bytes[2], piece.from, piece.y);
+    let distance = layer_cell::distance(plan, layer, piece.from, piece.y);
     if render_choice::within(layer_cell::gap(distance), job.far) {
         render_run(
-            output, job, numbers, bytes, frames, fields, run, distance, piece,
+            output, job, layer, frames, fields, run, distance, piece,
         )
     } else {
         run
@@ -167,19 +163,18 @@ fn render_cell(
 }
 
 // The cells of a row, one after the other.
-fn render_cells(
+fn render_cells<L: Lent>(
     output: &mut [u8],
     job: Job,
-    numbers: [&[i16]; 3],
-    bytes: [&[u8]; 3],
+    layer: L,
     frames: [&[u8]; 2],
     fields: [&[u16]; 4],
     down: Taps,
     start: Run,
     y: usize,
 ) -> usize
-    requires { Works job numbers bytes frames fields × RowAsks job.plan output.old y start.count × Holding job fields y down start }
-    ensures { RowIn job numbers.entry bytes.entry frames.entry fields.entry y start.count output.old output.new result }
+    requires { Works job (L.held layer) frames fields × RowAsks job.plan output.old y start.count × Holding job fields y down start }
+    ensures { RowIn job (L.held layer) frames.entry fields.entry y start.count output.old output.new result }
 {
     let plan = job.plan;
     let mut run = start;
@@ -192,25 +187,24 @@ fn render_cells(
             from: x,
             to: end,
         };
-        run = render_cell(output, job, numbers, bytes, frames, fields, run, piece);
+        run = render_cell(output, job, layer, frames, fields, run, piece);
         x = end;
     }
     run.count
 }
 
 // One row: the grid's rows around it are found once.
-fn render_row(
+fn render_row<L: Lent>(
     output: &mut [u8],
     job: Job,
-    numbers: [&[i16]; 3],
-    bytes: [&[u8]; 3],
+    layer: L,
     frames: [&[u8]; 2],
     fields: [&[u16]; 4],
     count: usize,
     y: usize,
 ) -> usize
-    requires { Works job numbers bytes frames fields × RowAsks job.plan output.old y count }
-    ensures { RowIn job numbers.entry bytes.entry frames.entry fields.entry y count output.old output.new result }
+    requires { Works job (L.held layer) frames fields × RowAsks job.plan output.old y count }
+    ensures { RowIn job (L.held layer) frames.entry fields.entry y count output.old output.new result }
 {
     let plan = job.plan;
     let grid = job.grid;
@@ -220,26 +214,25 @@ fn render_row(
         fields[0], fields[1], fields[2], fields[3], grid, plan.span, down, across,
     );
     let start = Run { count, carried };
-    render_cells(output, job, numbers, bytes, frames, fields, down, start, y)
+    render_cells(output, job, layer, frames, fields, down, start, y)
 }
 
 // All rows.
-pub fn render_rows(
+pub fn render_rows<L: Lent>(
     output: &mut [u8],
     job: Job,
-    numbers: [&[i16]; 3],
-    bytes: [&[u8]; 3],
+    layer: L,
     frames: [&[u8]; 2],
     fields: [&[u16]; 4],
 ) -> usize
-    requires { Works job numbers bytes frames fields × RowsAsk job.plan output.old }
-    ensures { RowsIn job numbers.entry bytes.entry frames.entry fields.entry output.old output.new result }
+    requires { Works job (L.held layer) frames fields × RowsAsk job.plan output.old }
+    ensures { RowsIn job (L.held layer) frames.entry fields.entry output.old output.new result }
 {
     let plan = job.plan;
     let mut count = 0;
     let mut y = 0;
     while y < plan.down {
-        count = render_row(output, job, numbers, bytes, frames, fields, count, y);
+        count = render_row(output, job, layer, frames, fields, count, y);
         y += 1;
     }
     count

@@ -10,7 +10,7 @@ ghost use Rattle.layer_lent.specs.Lent.{lay, Inside};
 ghost use Rattle.layer_point.specs.Points.{LiesOver};
 ghost use Rattle.scene_between.specs.Rings.{ring_up_to};
 
-use layer_lent::Plan;
+use layer_lent::{Lent, Plan};
 use rules::{Ring, Scene};
 
 // A ring: the point that it lies around, and how far.
@@ -42,22 +42,21 @@ fn beside(x: f32, k: usize, radius: f32, size: usize) -> f32
 }
 
 // A ring with the value at a point more, if it is lifted: the plane is read only there.
-fn gathered_at(
+fn gathered_at<L: Lent>(
     plan: Plan,
-    numbers: [&[i16]; 3],
-    bytes: [&[u8]; 3],
+    layer: L,
     raw: &[u8],
     pitch: usize,
     x: f32,
     y: f32,
     ring: Ring,
 ) -> Ring
-    requires { LiesOver plan numbers bytes raw.now pitch × Inside plan (cut x) (cut y) }
-    ensures { result ≡ gathered_of (under_of (lay plan.shape numbers.entry bytes.entry) plan.shape.plane (plane_of raw.now pitch) x y) ring }
+    requires { LiesOver plan (L.held layer) raw.now pitch × Inside plan (cut x) (cut y) }
+    ensures { result ≡ gathered_of (under_of (lay plan.shape (L.held layer)) plan.shape.plane (plane_of raw.now pitch) x y) ring }
 {
     let across = sample::between(x, plan.across);
     let down = sample::between(y, plan.down);
-    let model = layer_point::model_by(plan, numbers, bytes, across, down);
+    let model = layer_point::model_by(plan, layer, across, down);
     if 0.2 <= float::abs(model.gain) {
         let value = sample::sample_at(raw, pitch, across, down, plan.across, plan.down);
         scene_lift::added(ring, scene_lift::lift(value, model))
@@ -67,18 +66,17 @@ fn gathered_at(
 }
 
 // Point `side` of a ring more; 4 is the middle and no point of it.
-fn ring_step(
+fn ring_step<L: Lent>(
     plan: Plan,
-    numbers: [&[i16]; 3],
-    bytes: [&[u8]; 3],
+    layer: L,
     raw: &[u8],
     pitch: usize,
     circle: Circle,
     side: usize,
     ring: Ring,
 ) -> Ring
-    requires { LiesOver plan numbers bytes raw.now pitch × (side < 9) }
-    ensures { result ≡ stepped (lay plan.shape numbers.entry bytes.entry) plan.shape.plane (plane_of raw.now pitch)
+    requires { LiesOver plan (L.held layer) raw.now pitch × (side < 9) }
+    ensures { result ≡ stepped (lay plan.shape (L.held layer)) plan.shape.plane (plane_of raw.now pitch)
         circle.x circle.y circle.radius side ring }
 {
     if side == 4 {
@@ -86,20 +84,19 @@ fn ring_step(
     }
     let u = beside(circle.x, side % 3, circle.radius, plan.across);
     let v = beside(circle.y, side / 3, circle.radius, plan.down);
-    gathered_at(plan, numbers, bytes, raw, pitch, u, v, ring)
+    gathered_at(plan, layer, raw, pitch, u, v, ring)
 }
 
 // The points of a ring, row by row.
-fn ring_around(
+fn ring_around<L: Lent>(
     plan: Plan,
-    numbers: [&[i16]; 3],
-    bytes: [&[u8]; 3],
+    layer: L,
     raw: &[u8],
     pitch: usize,
     circle: Circle,
 ) -> Ring
-    requires { LiesOver plan numbers bytes raw.now pitch }
-    ensures { result ≡ ring_up_to (lay plan.shape numbers.entry bytes.entry) plan.shape.plane (plane_of raw.now pitch) circle.x circle.y circle.radius 9 }
+    requires { LiesOver plan (L.held layer) raw.now pitch }
+    ensures { result ≡ ring_up_to (lay plan.shape (L.held layer)) plan.shape.plane (plane_of raw.now pitch) circle.x circle.y circle.radius 9 }
 {
     let mut grown = Ring {
         total: 0.0,
@@ -107,72 +104,69 @@ fn ring_around(
     };
     let mut side = 0;
     while side < 9 {
-        grown = ring_step(plan, numbers, bytes, raw, pitch, circle, side, grown);
+        grown = ring_step(plan, layer, raw, pitch, circle, side, grown);
         side += 1;
     }
     grown
 }
 
 // The ring at so many times the radius.
-fn ring(
+fn ring<L: Lent>(
     plan: Plan,
-    numbers: [&[i16]; 3],
-    bytes: [&[u8]; 3],
+    layer: L,
     raw: &[u8],
     pitch: usize,
     x: f32,
     y: f32,
     times: usize,
 ) -> Ring
-    requires { LiesOver plan numbers bytes raw.now pitch × (times ≤ 3) }
-    ensures { result ≡ ring_of (lay plan.shape numbers.entry bytes.entry) plan.shape.plane (plane_of raw.now pitch) x y times }
+    requires { LiesOver plan (L.held layer) raw.now pitch × (times ≤ 3) }
+    ensures { result ≡ ring_of (lay plan.shape (L.held layer)) plan.shape.plane (plane_of raw.now pitch) x y times }
 {
     let radius = 4.0 / float::of_size(plan.span) * float::of_size(times);
-    ring_around(plan, numbers, bytes, raw, pitch, Circle { x, y, radius })
+    ring_around(plan, layer, raw, pitch, Circle { x, y, radius })
 }
 
 // A raw value filled from the first ring with any.
-fn rings(
+fn rings<L: Lent>(
     plan: Plan,
-    numbers: [&[i16]; 3],
-    bytes: [&[u8]; 3],
+    layer: L,
     raw: &[u8],
     pitch: usize,
     x: f32,
     y: f32,
     value: f32,
 ) -> Scene
-    requires { LiesOver plan numbers bytes raw.now pitch }
-    ensures { result ≡ filled_of (lay plan.shape numbers.entry bytes.entry) plan.shape.plane (plane_of raw.now pitch) x y (Scene.Raw value) }
+    requires { LiesOver plan (L.held layer) raw.now pitch }
+    ensures { result ≡ filled_of (lay plan.shape (L.held layer)) plan.shape.plane (plane_of raw.now pitch) x y (Scene.Raw value) }
 {
-    let one = ring(plan, numbers, bytes, raw, pitch, x, y, 1);
+    let one = ring(plan, layer, raw, pitch, x, y, 1);
     if 0.0 < one.count {
         return Scene::Lifted(one.total / one.count);
     }
-    let two = ring(plan, numbers, bytes, raw, pitch, x, y, 2);
+    let two = ring(plan, layer, raw, pitch, x, y, 2);
     if 0.0 < two.count {
         return Scene::Lifted(two.total / two.count);
     }
-    let three = ring(plan, numbers, bytes, raw, pitch, x, y, 3);
+    let three = ring(plan, layer, raw, pitch, x, y, 3);
     scene_lift::mean_or(three, Scene::Raw(value))
 }
 
 // A scene value, filled if it is raw.
-pub fn filled(
+pub fn filled<L: Lent>(
     plan: Plan,
-    numbers: [&[i16]; 3],
-    bytes: [&[u8]; 3],
+    layer: L,
     raw: &[u8],
     pitch: usize,
     x: f32,
     y: f32,
     scene: Scene,
 ) -> Scene
-    requires { LiesOver plan numbers bytes raw.now pitch }
-    ensures { result ≡ filled_of (lay plan.shape numbers.entry bytes.entry) plan.shape.plane (plane_of raw.now pitch) x y scene }
+    requires { LiesOver plan (L.held layer) raw.now pitch }
+    ensures { result ≡ filled_of (lay plan.shape (L.held layer)) plan.shape.plane (plane_of raw.now pitch) x y scene }
 {
     match scene {
         Scene::Lifted(value) => Scene::Lifted(value),
-        Scene::Raw(value) => rings(plan, numbers, bytes, raw, pitch, x, y, value),
+        Scene::Raw(value) => rings(plan, layer, raw, pitch, x, y, value),
     }
 }

@@ -7,13 +7,13 @@ use Rattle.rules.specs.Literals.{0·0}
 use Rattle.rules.specs.Reading.{at, texel}
 use Rattle.rules.specs.Scene.{lifted, gathered, mean_or}
 use Rattle.layer_lent.specs.declared.Plan.{Plan}
-use Rattle.layer_lent.specs.Lent.{Numbers, Bytes, lay, Sound}
+use Rattle.layer_lent.specs.Lent.{lay, Sound, Held}
 use Rattle.sample.specs.Points.{PlaneFits}
 use Rattle.scene_whole.specs.declared.Band.{Band}
 
 -- a layer, and a byte plane over the plane that is worked on
-pub record SoundOver (p : Plan) (numbers : Numbers) (bytes : Bytes) (raw : List ℕ) (pitch : ℕ) : Type 0 where
-  pub sound : Sound p numbers bytes
+pub record SoundOver (p : Plan) (held : Held) (raw : List ℕ) (pitch : ℕ) : Type 0 where
+  pub sound : Sound p held
   pub fits : PlaneFits raw pitch p.across p.down
 
 -- x a radius back, where it is, or a radius on, held to 0 .. size - 1
@@ -34,11 +34,11 @@ unfoldable pub row_ring : Layer → (plane : ℕ) → (raw : Plane) → (width x
 row_ring l plane raw width x row radius down = turns (gathered_on l plane raw width x row radius down)
 
 -- the same of a band
-abbrev pub point_on : Plan → Numbers → Bytes → (raw : Plane) → Band → (k : ℕ) → Ring → Ring
-point_on p numbers bytes raw b k r = gathered_on (lay p.shape numbers bytes) p.shape.plane raw p.across b.x b.row b.radius b.down k r
+abbrev pub point_on : Plan → Held → (raw : Plane) → Band → (k : ℕ) → Ring → Ring
+point_on p held raw b k r = gathered_on (lay p.shape held) p.shape.plane raw p.across b.x b.row b.radius b.down k r
 
-abbrev pub band_on : Plan → Numbers → Bytes → (raw : Plane) → Band → Ring → Ring
-band_on p numbers bytes raw b r = row_ring (lay p.shape numbers bytes) p.shape.plane raw p.across b.x b.row b.radius b.down 3 r
+abbrev pub band_on : Plan → Held → (raw : Plane) → Band → Ring → Ring
+band_on p held raw b r = row_ring (lay p.shape held) p.shape.plane raw p.across b.x b.row b.radius b.down 3 r
 
 -- the first rows of a ring
 unfoldable pub whole_ring : Layer → (plane : ℕ) → (raw : Plane) → (size : ℕ × ℕ) → (x y radius rows : ℕ) → Ring

@@ -6,11 +6,11 @@ ghost use Rattle.rules.specs.Float.{float};
 ghost use Rattle.rules.specs.Reading.{at, texel};
 ghost use Rattle.rules.specs.Scene.{lift, gathered, filled};
 ghost use Rattle.calls.specs.Lent.{plane_of};
-ghost use Rattle.layer_lent.specs.Lent.{part, lay, Inside};
+ghost use Rattle.layer_lent.specs.Lent.{lay, Inside};
 ghost use Rattle.layer_numbers.specs.Stored.{Summed};
 ghost use Rattle.scene_whole.specs.Rings.{SoundOver, held_at, seen, point_on, band_on, whole_ring};
 
-use layer_lent::Plan;
+use layer_lent::{Lent, Plan};
 use rules::{Ring, Scene};
 
 // One of a ring's three rows, by number: which row of the plane it is, around which column, and how far its points lie.
@@ -43,25 +43,23 @@ fn held(x: usize, k: usize, radius: usize, size: usize) -> usize
 }
 
 // The lifted value at a pixel with this total of gains.
-fn lifted_at(
+fn lifted_at<L: Lent>(
     plan: Plan,
-    numbers: [&[i16]; 3],
-    bytes: [&[u8]; 3],
+    layer: L,
     raw: &[u8],
     pitch: usize,
     x: usize,
     y: usize,
     total: i32,
 ) -> f32
-    requires { SoundOver plan numbers bytes raw.now pitch × Inside plan x y × Summed plan (part plan.shape numbers bytes 0) x y total }
-    ensures { result ≡ lift (at (plane_of raw.now pitch) x y) (texel (lay plan.shape numbers.entry bytes.entry) plan.shape.plane x y) }
+    requires { SoundOver plan (L.held layer) raw.now pitch × Inside plan x y × Summed plan (L.held layer 0) x y total }
+    ensures { result ≡ lift (at (plane_of raw.now pitch) x y) (texel (lay plan.shape (L.held layer)) plan.shape.plane x y) }
 {
     let model = layer_texel::texel_of(
         plan,
         plan.shape.plane == 0,
         plan.span,
-        numbers,
-        bytes,
+        layer,
         x,
         y,
         total,
@@ -70,24 +68,23 @@ fn lifted_at(
 }
 
 // A ring with the value at a pixel more, if it is lifted: nothing else is read before its gain is tested.
-fn gathered_at(
+fn gathered_at<L: Lent>(
     plan: Plan,
-    numbers: [&[i16]; 3],
-    bytes: [&[u8]; 3],
+    layer: L,
     raw: &[u8],
     pitch: usize,
     x: usize,
     y: usize,
     ring: Ring,
 ) -> Ring
-    requires { SoundOver plan numbers bytes raw.now pitch × Inside plan x y }
-    ensures { result ≡ gathered (seen (lay plan.shape numbers.entry bytes.entry) plan.shape.plane (plane_of raw.now pitch) x y) ring }
+    requires { SoundOver plan (L.held layer) raw.now pitch × Inside plan x y }
+    ensures { result ≡ gathered (seen (lay plan.shape (L.held layer)) plan.shape.plane (plane_of raw.now pitch) x y) ring }
 {
-    let total = layer_numbers::gains(plan, numbers[0], bytes[0], x, y);
+    let total = layer_numbers::gains(plan, layer, x, y);
     if layer_model::strong(total, plan.span) {
         scene_lift::added(
             ring,
-            lifted_at(plan, numbers, bytes, raw, pitch, x, y, total),
+            lifted_at(plan, layer, raw, pitch, x, y, total),
         )
     } else {
         ring
@@ -95,62 +92,59 @@ fn gathered_at(
 }
 
 // Point k of a row of a ring more; the ring has no middle.
-fn point_more(
+fn point_more<L: Lent>(
     plan: Plan,
-    numbers: [&[i16]; 3],
-    bytes: [&[u8]; 3],
+    layer: L,
     raw: &[u8],
     pitch: usize,
     band: Band,
     k: usize,
     ring: Ring,
 ) -> Ring
-    requires { SoundOver plan numbers bytes raw.now pitch × Inside plan band.x band.row × (band.radius ≤ 12) }
-    ensures { result ≡ point_on plan numbers.entry bytes.entry (plane_of raw.now pitch) band k ring }
+    requires { SoundOver plan (L.held layer) raw.now pitch × Inside plan band.x band.row × (band.radius ≤ 12) }
+    ensures { result ≡ point_on plan (L.held layer) (plane_of raw.now pitch) band k ring }
 {
     if plane::both(band.down == 1, k == 1) {
         ring
     } else {
         let column = held(band.x, k, band.radius, plan.across);
-        gathered_at(plan, numbers, bytes, raw, pitch, column, band.row, ring)
+        gathered_at(plan, layer, raw, pitch, column, band.row, ring)
     }
 }
 
 // The points of a row of a ring.
-fn ring_row(
+fn ring_row<L: Lent>(
     plan: Plan,
-    numbers: [&[i16]; 3],
-    bytes: [&[u8]; 3],
+    layer: L,
     raw: &[u8],
     pitch: usize,
     band: Band,
     ring: Ring,
 ) -> Ring
-    requires { SoundOver plan numbers bytes raw.now pitch × Inside plan band.x band.row × (band.radius ≤ 12) }
-    ensures { result ≡ band_on plan numbers.entry bytes.entry (plane_of raw.now pitch) band ring }
+    requires { SoundOver plan (L.held layer) raw.now pitch × Inside plan band.x band.row × (band.radius ≤ 12) }
+    ensures { result ≡ band_on plan (L.held layer) (plane_of raw.now pitch) band ring }
 {
     let mut grown = ring;
     let mut k = 0;
     while k < 3 {
-        grown = point_more(plan, numbers, bytes, raw, pitch, band, k, grown);
+        grown = point_more(plan, layer, raw, pitch, band, k, grown);
         k += 1;
     }
     grown
 }
 
 // The ring at this radius.
-fn ring(
+fn ring<L: Lent>(
     plan: Plan,
-    numbers: [&[i16]; 3],
-    bytes: [&[u8]; 3],
+    layer: L,
     raw: &[u8],
     pitch: usize,
     x: usize,
     y: usize,
     radius: usize,
 ) -> Ring
-    requires { SoundOver plan numbers bytes raw.now pitch × Inside plan x y × (radius ≤ 12) }
-    ensures { result ≡ whole_ring (lay plan.shape numbers.entry bytes.entry) plan.shape.plane (plane_of raw.now pitch) (plan.across, plan.down) x y radius 3 }
+    requires { SoundOver plan (L.held layer) raw.now pitch × Inside plan x y × (radius ≤ 12) }
+    ensures { result ≡ whole_ring (lay plan.shape (L.held layer)) plan.shape.plane (plane_of raw.now pitch) (plan.across, plan.down) x y radius 3 }
 {
     let mut grown = Ring {
         total: 0.0,
@@ -165,7 +159,7 @@ fn ring(
             radius,
             down,
         };
-        grown = ring_row(plan, numbers, bytes, raw, pitch, band, grown);
+        grown = ring_row(plan, layer, raw, pitch, band, grown);
         down += 1;
     }
     grown
@@ -184,23 +178,22 @@ fn fill_step(span: usize) -> usize
 }
 
 // The raw value of a pixel, filled from its first ring with any.
-pub fn rings(
+pub fn rings<L: Lent>(
     plan: Plan,
-    numbers: [&[i16]; 3],
-    bytes: [&[u8]; 3],
+    layer: L,
     raw: &[u8],
     pitch: usize,
     x: usize,
     y: usize,
     value: f32,
 ) -> Scene
-    requires { SoundOver plan numbers bytes raw.now pitch × Inside plan x y }
-    ensures { result ≡ filled (lay plan.shape numbers.entry bytes.entry) plan.shape.plane (plane_of raw.now pitch) (float x) (float y) (Scene.Raw value) }
+    requires { SoundOver plan (L.held layer) raw.now pitch × Inside plan x y }
+    ensures { result ≡ filled (lay plan.shape (L.held layer)) plan.shape.plane (plane_of raw.now pitch) (float x) (float y) (Scene.Raw value) }
 {
     let radius = fill_step(plan.span);
     let mut times = 1;
     while times <= 3 {
-        let ring = ring(plan, numbers, bytes, raw, pitch, x, y, radius * times);
+        let ring = ring(plan, layer, raw, pitch, x, y, radius * times);
         if 0.0 < ring.count {
             return Scene::Lifted(ring.total / ring.count);
         }

@@ -17,7 +17,7 @@ use denote.Builtin.{u8, i16}
 use denote.Ref.{Bor, MutBor}
 use denote.Slice.{MutSlice, ShrSlice, shr_slice_vals, mut_slice_vals, mut_slice_Lawful, shr_slice_Lawful}
 use Rattle.layer_lent.specs.declared.Shape.{Shape}
-use Rattle.layer_lent.specs.Lent.{Numbers, Bytes}
+use Rattle.layer_lent.specs.Lent.{Held}
 use Rattle.layer_lent.specs.contracts.Shape as S
 use Rattle.layer_lent.proofs.Shape.TheLaws as S'
 
@@ -25,8 +25,8 @@ module _ (κ₀ κ₁ κ₂ : Lft) where
   abbrev pub tokens : (q₀ q₁ q₂ : Share) → List Fml
   tokens q₀ q₁ q₂ = flft κ₀ q₀ ∷ flft κ₁ q₁ ∷ flft κ₂ q₂ ∷ []
 
-  abbrev pub carried : (output : MutBor (List ℕ)) (s : Shape) (numbers : Numbers) (bytes : Bytes) → List Fml
-  carried output s numbers bytes =
+  abbrev pub carried : (output : MutBor (List ℕ)) (s : Shape) (held : Held) → List Fml
+  carried output s held =
       (MutSlice (named 0) κ₀ u8).own_val output (mut_slice_vals output)
       ∷ (S.the_row).own_val s (S'.lowered s ∷ [])
       ∷ (Array (ShrSlice (named 1) κ₁ i16) 3).own_val numbers (array_vals shr_slice_vals numbers)

@@ -6,7 +6,7 @@ ghost use Rattle.std.specs.Prelude.{◌≡◌};
 ghost use Rattle.peel.specs.Call.{peel_of, unpeel_of, Peeled, Unpeeled};
 ghost use Rattle.view.specs.Viewed.{peel_seen, unpeel_seen};
 
-use layer_lent::Shape;
+use layer_lent::{Lent, Shape};
 use rules::Answer;
 
 // A byte plane that is borrowed, with its pitch.
@@ -24,48 +24,44 @@ pub fn new<'a>(bytes: &'a [u8], pitch: usize) -> View<'a>
 }
 
 // Peels a plane that is a view.
-pub fn peel_view<'o, 'n, 'b, 'f>(
+pub fn peel_view<'o, 'f, L: Lent>(
     output: &'o mut [u8],
     shape: Shape,
-    numbers: [&'n [i16]; 3],
-    bytes: [&'b [u8]; 3],
+    layer: L,
     raw: View<'f>,
 ) -> Answer
-    ensures { Peeled (peel_seen shape numbers.entry bytes.entry output.old raw.entry) output.new result }
+    ensures { Peeled (peel_seen shape (L.held layer) output.old raw.entry) output.new result }
 {
-    peel::peel(output, shape, numbers, bytes, raw.bytes, raw.pitch)
+    peel::peel(output, shape, layer, raw.bytes, raw.pitch)
 }
 
 // Peels one that is a slice with its pitch.
-pub fn peel_of<'o, 'n, 'b, 'f>(
+pub fn peel_of<'o, 'f, L: Lent>(
     output: &'o mut [u8],
     shape: Shape,
-    numbers: [&'n [i16]; 3],
-    bytes: [&'b [u8]; 3],
+    layer: L,
     raw: &'f [u8],
     pitch: usize,
 ) -> Answer
-    ensures { Peeled (peel_of shape numbers.entry bytes.entry output.old raw.entry pitch) output.new result }
+    ensures { Peeled (peel_of shape (L.held layer) output.old raw.entry pitch) output.new result }
 {
-    peel_view(output, shape, numbers, bytes, new(raw, pitch))
+    peel_view(output, shape, layer, new(raw, pitch))
 }
 
 // Unpeels a plane between two views.
-pub fn unpeel_views<'o, 'n, 'b, 'f>(
+pub fn unpeel_views<'o, 'f, L: Lent>(
     output: &'o mut [u8],
     shape: Shape,
-    numbers: [&'n [i16]; 3],
-    bytes: [&'b [u8]; 3],
+    layer: L,
     first: View<'f>,
     second: View<'f>,
 ) -> Answer
-    ensures { Unpeeled (unpeel_seen shape numbers.entry bytes.entry output.old first.entry second.entry) output.new result }
+    ensures { Unpeeled (unpeel_seen shape (L.held layer) output.old first.entry second.entry) output.new result }
 {
     peel::unpeel(
         output,
         shape,
-        numbers,
-        bytes,
+        layer,
         first.bytes,
         first.pitch,
         second.bytes,
@@ -74,23 +70,21 @@ pub fn unpeel_views<'o, 'n, 'b, 'f>(
 }
 
 // Unpeels one between two slices, each with its pitch.
-pub fn unpeel_of<'o, 'n, 'b, 'f>(
+pub fn unpeel_of<'o, 'f, L: Lent>(
     output: &'o mut [u8],
     shape: Shape,
-    numbers: [&'n [i16]; 3],
-    bytes: [&'b [u8]; 3],
+    layer: L,
     first: &'f [u8],
     first_pitch: usize,
     second: &'f [u8],
     second_pitch: usize,
 ) -> Answer
-    ensures { Unpeeled (unpeel_of shape numbers.entry bytes.entry output.old first.entry first_pitch second.entry second_pitch) output.new result }
+    ensures { Unpeeled (unpeel_of shape (L.held layer) output.old first.entry first_pitch second.entry second_pitch) output.new result }
 {
     unpeel_views(
         output,
         shape,
-        numbers,
-        bytes,
+        layer,
         new(first, first_pitch),
         new(second, second_pitch),
     )

@@ -4,7 +4,7 @@ use Rattle.empty.proofs.eight_unmarked.Goals as goal
 
 pub returns : goal.returns
 unfolding turns all
-returns c =
+returns g c =
     rw (
       c.all.ensures,
       c.unmarked-8.ensures,

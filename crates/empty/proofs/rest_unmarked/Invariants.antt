@@ -5,7 +5,7 @@ use Rattle.empty.specs.Marks.{celled, row_unmarked}
 use Rattle.empty.proofs.rest_unmarked.Given as goal
 
 abbrev pub invariant-loop-x : goal.invariant-loop-x
-invariant-loop-x l = (l.none ≡ row_unmarked (celled l.plan l.numbers l.bytes) l.y l.x) × (l.x ≤ l.width)
+invariant-loop-x g l = (l.none ≡ row_unmarked (celled l.plan (g.L.Lent.held l.layer)) l.y l.x) × (l.x ≤ l.width)
 
 abbrev pub decreases-loop-x : goal.decreases-loop-x
-decreases-loop-x l = l.width - l.x
+decreases-loop-x g l = l.width - l.x

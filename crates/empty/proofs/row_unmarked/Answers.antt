@@ -6,4 +6,4 @@ use Rattle.empty.proofs.row_unmarked.Goals as goal
 
 pub rest_unmarked-requires-2 : goal.rest_unmarked-requires-2
 unfolding turns all
-rest_unmarked-requires-2 c = (c.requires, omega arith, refl)
+rest_unmarked-requires-2 g c = (c.requires, omega arith, refl)

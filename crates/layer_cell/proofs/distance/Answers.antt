@@ -10,7 +10,7 @@ use Rattle.layer_cell.proofs.Ends.{cell_in}
 use Rattle.layer_cell.proofs.distance.Goals as goal
 
 pub number-requires : goal.number-requires
-number-requires c =
+number-requires g c =
     let a = c.args in
     let h = a.plan.shape in
     let pl = c.requires.0 in
@@ -22,7 +22,7 @@ number-requires c =
 
 pub returns : goal.returns
 unfolding distance
-returns c =
+returns g c =
     back w16 c.number.result c.number.type_inv
     ∙ c.number.ensures
     ∙ rw (c.cell_of-row.ensures, c.cell_of-column.ensures, c.requires.0.is)

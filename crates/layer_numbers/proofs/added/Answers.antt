@@ -8,17 +8,17 @@ use Rattle.layer_numbers.proofs.Sums.{wide_fits, wide_is, fits_sum, added_is}
 use Rattle.layer_numbers.proofs.added.Goals as goal
 
 pub overflow_cast-result : goal.overflow_cast-result
-overflow_cast-result c = wide_fits c.gain.result.0 c.struct_told-1.given.0.1
+overflow_cast-result g c = wide_fits c.gain.result.0 c.struct_told-1.given.0.1
 
 pub overflow_add-result : goal.overflow_add-result
-overflow_add-result c =
+overflow_add-result g c =
     let e = c.gain.result.0 in
     let small = c.struct_told-1.given.0.1 in
     let t = c.args.total in
     rw (back w32 t c.ranges.total.sfits, wide_is e small) (fits_sum t e c.requires.1 small)
 
 pub returns : goal.returns
-returns c =
+returns g c =
     let g = c.gain in
     let e = g.result.0 in
     let small = c.struct_told-1.given.0.1 in

@@ -2,7 +2,6 @@
 use native.Mathlib.Nat.{add-zero}
 use native.Mathlib.Omega.{arith}
 use mir.Syntax.{w32}
-use Rattle.layer_lent.specs.Lent.{lent}
 use Rattle.layer_lent.proofs.Signed.{back}
 use Rattle.layer_numbers.proofs.Sums.{block_of_two}
 use Rattle.layer_numbers.proofs.Places.{row_fits}
@@ -10,21 +9,21 @@ use Rattle.layer_numbers.proofs.Texels.{of_block}
 use Rattle.layer_numbers.proofs.four.Goals as goal
 
 pub gain_two-upper-requires : goal.gain_two-upper-requires
-gain_two-upper-requires c =
+gain_two-upper-requires g c =
     let a = c.args in
     let two = c.requires.3 in
-    let row = rw two at (row_fits a.plan a.x a.y c.requires.0 c.requires.1 (lent a.plan.shape.packed a.numbers.now a.bytes.now) c.requires.2 0 (omega arith)) in
+    let row = rw two at (row_fits a.plan a.x a.y c.requires.0 c.requires.1 (g.L.Lent.held a.layer 0) c.requires.2 0 (omega arith)) in
     (rw add-zero at row, omega arith)
 
 pub gain_two-requires : goal.gain_two-requires
-gain_two-requires c =
+gain_two-requires g c =
     let a = c.args in
     let two = c.requires.3 in
-    let row = rw two at (row_fits a.plan a.x a.y c.requires.0 c.requires.1 (lent a.plan.shape.packed a.numbers.now a.bytes.now) c.requires.2 1 (omega arith)) in
+    let row = rw two at (row_fits a.plan a.x a.y c.requires.0 c.requires.1 (g.L.Lent.held a.layer 0) c.requires.2 1 (omega arith)) in
     (row, rw (back w32 c.gain_two-upper.result c.gain_two-upper.type_inv) (omega (arith, c.gain_two-upper.ensures.small)))
 
 pub returns : goal.returns
-returns c =
+returns g c =
     let upper = c.gain_two-upper in
     let two = c.requires.3 in
     let lower = rw (back w32 upper.result upper.type_inv) at c.gain_two.ensures in

@@ -9,10 +9,10 @@ use Rattle.layer_numbers.proofs.Places.{row_fits}
 use Rattle.layer_numbers.proofs.gain_block.Goals as goal
 
 pub loop-dy-init : goal.loop-dy-init
-loop-dy-init c = (block_none _ _ _ _ _, omega arith, refl)
+loop-dy-init g c = (block_none _ _ _ _ _, omega arith, refl)
 
 pub gain_row-sum-requires : goal.gain_row-sum-requires
-gain_row-sum-requires c =
+gain_row-sum-requires g c =
     let at-loop = c.loop-dy in
     let h = c.requires.0 in (
       rw c.place-row.ensures (row_fits c.args.plan c.args.x c.args.y h c.requires.1 _ c.requires.2 at-loop.dy c.loop-dy-test.true),
@@ -20,7 +20,7 @@ gain_row-sum-requires c =
     )
 
 pub loop-dy-preserved : goal.loop-dy-preserved
-loop-dy-preserved c =
+loop-dy-preserved g c =
     let at-loop = c.loop-dy in
     let done = rw c.place-row.ensures at c.gain_row-sum.ensures in (
       rw (back w32 c.gain_row-sum.result c.gain_row-sum.type_inv) (block_more c.requires.0.span.1 at-loop.invariant.0 done),
@@ -29,6 +29,6 @@ loop-dy-preserved c =
     )
 
 pub returns : goal.returns
-returns c =
+returns g c =
     let at-loop = c.loop-dy in
     rw (le_antisymm at-loop.invariant.1 c.loop-dy-test.false) at at-loop.invariant.0

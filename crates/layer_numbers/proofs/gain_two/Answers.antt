@@ -7,25 +7,25 @@ use Rattle.layer_numbers.proofs.Sums.{row_of_two}
 use Rattle.layer_numbers.proofs.gain_two.Goals as goal
 
 pub added-one-requires : goal.added-one-requires
-added-one-requires c = (
+added-one-requires g c = (
   omega (arith, c.place-k.ensures, c.requires.0.inside),
   rw (back w32 c.args.total c.ranges.total.sfits) (omega (arith, c.requires.1)),
 )
 
 pub overflow_add-k : goal.overflow_add-k
-overflow_add-k c =
+overflow_add-k g c =
     let f = c.requires.0 in
     omega (arith, c.place-k.ensures, f.left, mul-le-mul f.low f.narrow)
 
 pub added-requires : goal.added-requires
-added-requires c =
+added-requires g c =
     let small = rw (back w32 c.args.total c.ranges.total.sfits) at c.added-one.ensures.small in (
       omega (arith, c.place-k.ensures, c.requires.0.inside),
       rw (back w32 c.added-one.result c.added-one.type_inv) (omega (arith, small, c.requires.1)),
     )
 
 pub returns : goal.returns
-returns c =
+returns g c =
     let e = c.place-k.ensures in
     let first = rw (e, back w32 c.args.total c.ranges.total.sfits) at c.added-one.ensures in
     let second = rw (e, back w32 c.added-one.result c.added-one.type_inv) at c.added.ensures in

@@ -5,6 +5,6 @@ use Rattle.layer_numbers.proofs.Texels.{of_block}
 use Rattle.layer_numbers.proofs.gains.Goals as goal
 
 pub returns : goal.returns
-returns c =
+returns g c =
     let r = c.gain_block in
     rw (back w32 r.result r.type_inv) (of_block c.args.plan c.requires.0 _ _ _ r.result c.if-plan-eq1.false r.ensures)

@@ -9,10 +9,10 @@ use Rattle.layer_numbers.proofs.Texels.{one_is}
 use Rattle.layer_numbers.proofs.one.Goals as goal
 
 pub overflow_cast-result : goal.overflow_cast-result
-overflow_cast-result c = wide_fits c.luma_gain.result.0 c.struct_told-1.given.0.1
+overflow_cast-result g c = wide_fits c.luma_gain.result.0 c.struct_told-1.given.0.1
 
 pub returns : goal.returns
-returns c =
+returns g c =
     let g = c.luma_gain in
     let e = g.result.0 in
     let small = c.struct_told-1.given.0.1 in

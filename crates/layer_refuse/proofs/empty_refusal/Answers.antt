@@ -5,4 +5,4 @@ use Rattle.layer_refuse.proofs.empty_refusal.Goals as goal
 
 pub returns : goal.returns
 unfolding empty_refusal first_fitting each
-returns c = rw (c.rows.ensures, c.requires)
+returns g c = rw (c.rows.ensures, c.requires)

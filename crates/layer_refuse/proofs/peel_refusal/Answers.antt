@@ -5,5 +5,5 @@ use Rattle.layer_refuse.proofs.peel_refusal.Goals as goal
 
 pub returns : goal.returns
 unfolding peel_refusal first_fitting each
-returns c =
+returns g c =
     rw (c.rows.ensures, c.both-long.ensures, c.both-2.ensures, c.over_length-2.ensures, c.over_length.ensures, c.both-pitched.ensures, c.both.ensures, c.over_pitch-2.ensures, c.over_pitch.ensures)

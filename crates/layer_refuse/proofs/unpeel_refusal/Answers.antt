@@ -5,4 +5,4 @@ use Rattle.layer_refuse.proofs.unpeel_refusal.Goals as goal
 
 pub returns : goal.returns
 unfolding unpeel_refusal first_fitting each
-returns c = rw (c.frames_rows.ensures, c.time_row.ensures)
+returns g c = rw (c.frames_rows.ensures, c.time_row.ensures)

@@ -7,19 +7,19 @@ use Rattle.lift_count.proofs.Counted.{rows_none, rows_more, counts}
 use Rattle.lift_count.proofs.count.Goals as goal
 
 pub loop-y-init : goal.loop-y-init
-loop-y-init c = (rows_none, omega arith)
+loop-y-init g c = (rows_none, omega arith)
 
 pub row-n-requires : goal.row-n-requires
-row-n-requires c =
+row-n-requires g c =
     let inv = c.loop-y.invariant in
     (c.requires, c.loop-y-test.true, omega (arith, inv.0.few, c.loop-y-test.true, c.requires.planned.tall.1))
 
 pub loop-y-preserved : goal.loop-y-preserved
-loop-y-preserved c =
+loop-y-preserved g c =
     (rows_more c.requires.planned.wide.1 c.loop-y.invariant.0 c.row-n.ensures, omega arith)
 
 pub returns : goal.returns
-returns c =
+returns g c =
     let at-loop = c.loop-y in
     let h = c.requires.planned in
     counts (ap (λ (p : Plan). p.across) h.is) (ap (λ (p : Plan). p.down) h.is)

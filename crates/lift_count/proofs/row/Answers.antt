@@ -8,18 +8,18 @@ use Rattle.lift_count.proofs.Counted.{row_none, row_on, row_far}
 use Rattle.lift_count.proofs.row.Goals as goal
 
 pub loop-x-init : goal.loop-x-init
-loop-x-init c = (row_none _, omega arith)
+loop-x-init g c = (row_none _, omega arith)
 
 pub cells_end-from-requires : goal.cells_end-from-requires
-cells_end-from-requires c =
+cells_end-from-requires g c =
     (c.requires.0.planned, c.requires.0.second_long, c.requires.1, c.loop-x.invariant.1)
 
 pub cells_end-to-requires : goal.cells_end-to-requires
-cells_end-to-requires c =
+cells_end-to-requires g c =
     (c.requires.0.planned, c.requires.0.second_long, c.requires.1, c.cells_end-from.ensures.within)
 
 pub near_run-n-requires : goal.near_run-n-requires
-near_run-n-requires c =
+near_run-n-requires g c =
     let inv = c.loop-x.invariant in
     let far = c.cells_end-from.ensures in
     let near = c.cells_end-to.ensures in (
@@ -34,19 +34,19 @@ near_run-n-requires c =
     )
 
 pub loop-x-smaller : goal.loop-x-smaller
-loop-x-smaller c =
+loop-x-smaller g c =
     let near = c.cells_end-to.ensures in
     omega (arith, onward c.args.plan c.requires.0.planned _ c.args.y c.cells_end-from.ensures near c.loop-x-test.true, near.within)
 
 pub loop-x-preserved : goal.loop-x-preserved
-loop-x-preserved c =
+loop-x-preserved g c =
     let at-loop = c.loop-x in
     let far = c.cells_end-from.ensures in
     let near = c.cells_end-to.ensures in
-    let l = lay c.args.plan.shape c.args.numbers c.args.bytes in
+    let l = lay c.args.plan.shape (g.L.Lent.held c.args.layer) in
     (row_on near.ahead (row_far far.ahead (λ k low high. far_writes l _ k c.args.y (far.alike _ _ k low high)) at-loop.invariant.0) c.near_run-n.ensures, near.within)
 
 pub returns : goal.returns
-returns c =
+returns g c =
     let at-loop = c.loop-x in
     rw (le_antisymm at-loop.invariant.1 c.loop-x-test.false) at at-loop.invariant.0

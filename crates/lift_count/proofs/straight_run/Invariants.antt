@@ -5,10 +5,10 @@ use Rattle.lift_count.specs.Counts.{CountedOn}
 use Rattle.lift_count.proofs.straight_run.Given as goal
 
 abbrev pub invariant-loop-x : goal.invariant-loop-x
-invariant-loop-x l =
-    CountedOn (lay l.plan.shape l.numbers l.bytes) l.plan.shape.plane l.stretch.y l.stretch.from l.x l.stretch.count (l.stretch.count + l.n)
+invariant-loop-x g l =
+    CountedOn (lay l.plan.shape (g.L.Lent.held l.layer)) l.plan.shape.plane l.stretch.y l.stretch.from l.x l.stretch.count (l.stretch.count + l.n)
     × (l.stretch.from ≤ l.x)
     × (l.x ≤ l.stretch.to)
 
 abbrev pub decreases-loop-x : goal.decreases-loop-x
-decreases-loop-x l = l.stretch.to - l.x
+decreases-loop-x g l = l.stretch.to - l.x

@@ -8,7 +8,7 @@ use Rattle.lift_pixel.proofs.Peels.{scene-lifted, scene_raw}
 use Rattle.lift_pixel.proofs.peeled.Goals as goal
 
 pub returns-in-Lifted : goal.returns-in-Lifted
-returns-in-Lifted c =
+returns-in-Lifted g c =
     let w = c.requires.0.sound.planned.wide in
     let h = c.requires.0.sound.planned.tall in
     let i = c.requires.1 in
@@ -17,7 +17,7 @@ returns-in-Lifted c =
     ∙ ap pixel (scene-lifted _ _ _ (λ k. omega (arith, c.type_inv.raw k)) c.args.x c.args.y (omega arith) (omega arith) c.args.model c.requires.2 _ e)
 
 pub returns-in-Raw : goal.returns-in-Raw
-returns-in-Raw c =
+returns-in-Raw g c =
     let w = c.requires.0.sound.planned.wide in
     let h = c.requires.0.sound.planned.tall in
     let i = c.requires.1 in

@@ -7,10 +7,10 @@ use Rattle.lift_rows.proofs.Cells.{differs, agrees, test_is, alike_more}
 use Rattle.lift_rows.proofs.cells_end.Goals as goal
 
 pub loop-x-init : goal.loop-x-init
-loop-x-init c = (λ luma first k low high. absurd (omega arith), omega arith, omega arith)
+loop-x-init g c = (λ luma first k low high. absurd (omega arith), omega arith, omega arith)
 
 pub returns-then-near : goal.returns-then-near
-returns-then-near c =
+returns-then-near g c =
     let d = c.distance in
     let at-loop = c.loop-x in
     let other = differs c.near.result c.args.near c.if-near.true in
@@ -23,15 +23,15 @@ returns-then-near c =
     }
 
 pub cell_end-x-requires : goal.cell_end-x-requires
-cell_end-x-requires c =
+cell_end-x-requires g c =
     let h = c.requires.0 in
     (h.cell, h.small.0, h.small.1, c.loop-x-test.true, h.wide.1)
 
 pub loop-x-smaller : goal.loop-x-smaller
-loop-x-smaller c = omega (arith, c.cell_end-x.ensures.ahead, c.cell_end-x.ensures.within)
+loop-x-smaller g c = omega (arith, c.cell_end-x.ensures.ahead, c.cell_end-x.ensures.within)
 
 pub loop-x-preserved : goal.loop-x-preserved
-loop-x-preserved c =
+loop-x-preserved g c =
     let d = c.distance in
     let at-loop = c.loop-x in
     let end = c.cell_end-x.ensures in
@@ -43,7 +43,7 @@ loop-x-preserved c =
     )
 
 pub returns : goal.returns
-returns c =
+returns g c =
     let inv = c.loop-x.invariant in
     let out = c.loop-x-test.false in
     record { ahead = inv.1; within = inv.2; alike = inv.0; ends = λ inside. absurd (omega arith) }

@@ -7,10 +7,10 @@ use Rattle.lift_rows.proofs.Cells.{row_in}
 use Rattle.lift_rows.proofs.rows.Goals as goal
 
 pub loop-y-init : goal.loop-y-init
-loop-y-init c = (rows_none _ _ _ _, omega arith, refl)
+loop-y-init g c = (rows_none _ _ _ _, omega arith, refl)
 
 pub row-count-requires : goal.row-count-requires
-row-count-requires c =
+row-count-requires g c =
     let h = c.requires.0.sound.planned in
     let asks = c.requires.1 in
     let at-loop = c.loop-y in
@@ -26,13 +26,13 @@ row-count-requires c =
     )
 
 pub loop-y-preserved : goal.loop-y-preserved
-loop-y-preserved c =
+loop-y-preserved g c =
     let h = c.requires.0.sound.planned in
     let inv = c.loop-y.invariant in
     let below = c.loop-y-test.true in
     (rows_more h.wide.1 inv.0 c.row-count.ensures, omega arith, c.row-count.auto.output ∙ inv.2)
 
 pub returns : goal.returns
-returns c =
+returns g c =
     let at-loop = c.loop-y in
     rw (le_antisymm at-loop.invariant.1 c.loop-y-test.false) at at-loop.invariant.0

@@ -6,15 +6,15 @@ use Rattle.lift_rows.proofs.Cells.{run_none, run_more}
 use Rattle.lift_rows.proofs.run.Goals as goal
 
 pub loop-x-init : goal.loop-x-init
-loop-x-init c = (run_none _ _ _ _ _ _, omega arith, omega arith, refl)
+loop-x-init g c = (run_none _ _ _ _ _ _, omega arith, omega arith, refl)
 
 pub bounds-output-k : goal.bounds-output-k
-bounds-output-k c =
+bounds-output-k g c =
     let at-loop = c.loop-x in
     omega (arith, c.place-k.ensures, c.requires.1.room, at-loop.invariant.3, c.loop-x-test.true)
 
 pub change-change-requires : goal.change-change-requires
-change-change-requires c =
+change-change-requires g c =
     let at-loop = c.loop-x in
     let below = c.loop-x-test.true in (
       c.requires.0,
@@ -23,7 +23,7 @@ change-change-requires c =
     )
 
 pub stamp-count-requires : goal.stamp-count-requires
-stamp-count-requires c =
+stamp-count-requires g c =
     let at-loop = c.loop-x in
     let below = c.loop-x-test.true in (
       omega (arith, c.place-k.ensures, c.requires.1.room, at-loop.invariant.3, below),
@@ -31,7 +31,7 @@ stamp-count-requires c =
     )
 
 pub loop-x-preserved : goal.loop-x-preserved
-loop-x-preserved c =
+loop-x-preserved g c =
     let inv = c.loop-x.invariant in
     let below = c.loop-x-test.true in
     let e = c.place-k.ensures in (
@@ -42,6 +42,6 @@ loop-x-preserved c =
     )
 
 pub returns : goal.returns
-returns c =
+returns g c =
     let at-loop = c.loop-x in
     rw (le_antisymm at-loop.invariant.2 c.loop-x-test.false) at at-loop.invariant.0

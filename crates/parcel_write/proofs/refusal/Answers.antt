@@ -8,7 +8,7 @@ use Rattle.parcel_write.proofs.refusal.Goals as goal
 
 pub returns : goal.returns
 unfolding parcel_write_refusal first_fitting each
-returns c =
+returns g c =
     let a = c.args in
     rw (c.rows.ensures, c.requires, c.unless-rest.ensures)
-    (rows_long (lay a.shape a.numbers a.bytes) 0 (length a.parcel.now) c.exact-long.result c.exact-long.ensures)
+    (rows_long (lay a.shape (g.L.Lent.held a.layer)) 0 (length a.parcel.now) c.exact-long.result c.exact-long.ensures)

@@ -11,7 +11,7 @@ use Rattle.render_pixel.proofs.composed.Goals as goal
 
 pub returns-then-kept : goal.returns-then-kept
 unfolding byte_by layered
-returns-then-kept c =
+returns-then-kept g c =
     let t = rw (
       c.kept.ensures,
       c.both.ensures,
@@ -25,7 +25,7 @@ returns-then-kept c =
 
 pub returns : goal.returns
 unfolding byte_by layered
-returns c =
+returns g c =
     let t = rw (
       c.kept.ensures,
       c.both.ensures,

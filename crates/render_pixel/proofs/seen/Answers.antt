@@ -5,5 +5,5 @@ use Rattle.render_pixel.proofs.seen.Goals as goal
 
 pub returns : goal.returns
 unfolding seen_by
-returns c =
+returns g c =
     rw (c.between.ensures, c.moved-late.ensures, c.moved-early.ensures, to_z-of_z c.ranges.algo)

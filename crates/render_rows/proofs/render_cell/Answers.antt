@@ -7,7 +7,7 @@ use Rattle.render_rows.proofs.Changes.{far_cell, cell_one}
 use Rattle.render_rows.proofs.render_cell.Goals as goal
 
 pub render_run-requires : goal.render_run-requires
-render_run-requires c =
+render_run-requires g c =
     let d = c.distance-distance.result in
     let h = c.requires.0.framed.first_ready.lies.sound.planned in
     let e = back w16 d c.distance-distance.type_inv in (
@@ -21,7 +21,7 @@ render_run-requires c =
     )
 
 pub returns-else-within : goal.returns-else-within
-returns-else-within c =
+returns-else-within g c =
     let d = c.distance-distance.result in
     let h = c.requires.0.framed.first_ready.lies.sound.planned in
     let far = rw (c.within.ensures, c.gap.ensures, back w16 d c.distance-distance.type_inv) at c.if-within.false in
@@ -29,6 +29,6 @@ returns-else-within c =
     let one = cell_one _ h _ _ _ _ _ _ d c.requires.3 c.distance-distance.ensures in
     record {
       row = run_skip _ _ _ _ _ _ _ (omega (arith, c.requires.1.ahead))
-          (far_cell a.job a.numbers a.bytes a.frames a.fields c.requires.0 _ _ _ d one far);
+          (far_cell a.job (g.L.Lent.held a.layer) a.frames a.fields c.requires.0 _ _ _ d one far);
       holds = c.requires.2.holds;
     }

@@ -6,10 +6,10 @@ use Rattle.render_rows.specs.Jobs.{motion_in, rule_in, RunDone}
 use Rattle.render_rows.proofs.render_cells.Given as goal
 
 abbrev pub invariant-loop-x : goal.invariant-loop-x
-invariant-loop-x l =
-    RunDone (rule_in l.job l.numbers l.bytes l.frames l.fields) l.job.plan.shape.output_pitch l.y 0 l.x (motion_in l.job l.fields)
+invariant-loop-x g l =
+    RunDone (rule_in l.job (g.L.Lent.held l.layer) l.frames l.fields) l.job.plan.shape.output_pitch l.y 0 l.x (motion_in l.job l.fields)
     l.job.plan.span l.down l.initial.run.count l.initial.output l.output l.run
     × (l.x ≤ l.job.plan.across) × (length l.output ≡ length l.initial.output)
 
 abbrev pub decreases-loop-x : goal.decreases-loop-x
-decreases-loop-x l = l.job.plan.across - l.x
+decreases-loop-x g l = l.job.plan.across - l.x

@@ -5,9 +5,9 @@ use Rattle.render_rows.proofs.Changes.{pixel_is}
 use Rattle.render_rows.proofs.render_pixel.Goals as goal
 
 pub returns : goal.returns
-returns c =
+returns g c =
     let a = c.args in
-    let e = pixel_is a.job a.numbers a.bytes a.frames a.fields c.requires.0 a.place.x a.place.y _ a.distance a.place.down
+    let e = pixel_is a.job (g.L.Lent.held a.layer) a.frames a.fields c.requires.0 a.place.x a.place.y _ a.distance a.place.down
     c.carry-carried.result c.steps_of.result c.timed-steps.result c.requires.3 c.requires.2.rows.is c.carry-carried.ensures
     c.steps_of.ensures c.timed-steps.ensures in
     record {

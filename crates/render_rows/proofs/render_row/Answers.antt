@@ -4,7 +4,7 @@ use Rattle.motion.proofs.Fields.{same_rows}
 use Rattle.render_rows.proofs.render_row.Goals as goal
 
 pub render_cells-requires : goal.render_cells-requires
-render_cells-requires c =
+render_cells-requires g c =
     let j = c.args.job in
     let rows = c.row_taps-down.ensures in (
       c.requires.0,

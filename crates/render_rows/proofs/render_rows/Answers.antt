@@ -7,10 +7,10 @@ use Rattle.lift_rows.proofs.Cells.{row_in}
 use Rattle.render_rows.proofs.render_rows.Goals as goal
 
 pub loop-y-init : goal.loop-y-init
-loop-y-init c = (rows_none _ _ _ _, zero-le, refl)
+loop-y-init g c = (rows_none _ _ _ _, zero-le, refl)
 
 pub render_row-count-requires : goal.render_row-count-requires
-render_row-count-requires c =
+render_row-count-requires g c =
     let a = c.args in
     let inv = c.loop-y.invariant in
     let below = c.loop-y-test.true in
@@ -20,7 +20,7 @@ render_row-count-requires c =
     (c.requires.0, record { above = below; narrow = asks.apart.1; room = omega (arith, room, inv.2); few = omega (arith, inv.0.few, below, h.tall) })
 
 pub loop-y-preserved : goal.loop-y-preserved
-loop-y-preserved c =
+loop-y-preserved g c =
     let done = c.render_row-count in
     let inv = c.loop-y.invariant in
     let h = c.requires.0.framed.first_ready.lies.sound.planned in

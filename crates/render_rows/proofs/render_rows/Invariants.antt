@@ -7,9 +7,9 @@ use Rattle.render_rows.specs.Jobs.{rule_in}
 use Rattle.render_rows.proofs.render_rows.Given as goal
 
 abbrev pub invariant-loop-y : goal.invariant-loop-y
-invariant-loop-y l =
-    RowsDone (rule_in l.job l.numbers l.bytes l.frames l.fields) l.job.plan.across l.y l.job.plan.shape.output_pitch l.initial.output l.output l.count
+invariant-loop-y g l =
+    RowsDone (rule_in l.job (g.L.Lent.held l.layer) l.frames l.fields) l.job.plan.across l.y l.job.plan.shape.output_pitch l.initial.output l.output l.count
     × (l.y ≤ l.job.plan.down) × (length l.output ≡ length l.initial.output)
 
 abbrev pub decreases-loop-y : goal.decreases-loop-y
-decreases-loop-y l = l.job.plan.down - l.y
+decreases-loop-y g l = l.job.plan.down - l.y

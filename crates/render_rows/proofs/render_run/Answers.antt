@@ -8,7 +8,7 @@ use Rattle.render_rows.proofs.Changes.{near_part}
 use Rattle.render_rows.proofs.render_run.Goals as goal
 
 pub render_pixel-last-requires : goal.render_pixel-last-requires
-render_pixel-last-requires c =
+render_pixel-last-requires g c =
     let inv = c.loop-x.invariant in
     let below = c.loop-x-test.true in (
       c.requires.0,
@@ -18,7 +18,7 @@ render_pixel-last-requires c =
     )
 
 pub loop-x-preserved : goal.loop-x-preserved
-loop-x-preserved c =
+loop-x-preserved g c =
     let done = c.render_pixel-last in
     let inv = c.loop-x.invariant in (
       record { row = run_join inv.1 (omega arith) inv.0.row done.ensures.row; holds = done.ensures.holds },
@@ -28,6 +28,6 @@ loop-x-preserved c =
     )
 
 pub returns : goal.returns
-returns c =
+returns g c =
     let at-loop = c.loop-x in
     rw (le_antisymm at-loop.invariant.2 c.loop-x-test.false) at at-loop.invariant.0

@@ -4,4 +4,4 @@ use Rattle.scene_between.proofs.filled.Goals as goal
 
 pub returns-in-Lifted : goal.returns-in-Lifted
 unfolding filled_of
-returns-in-Lifted c = rw c.in-Lifted.is
+returns-in-Lifted g c = rw c.in-Lifted.is

@@ -9,13 +9,13 @@ use Rattle.scene_between.proofs.gathered_at.Goals as goal
 
 pub returns-then-abs : goal.returns-then-abs
 unfolding under
-returns-then-abs c =
+returns-then-abs g c =
     let a = c.args in
     let h = c.requires.0.lies.sound.planned in
-    let model : c.model_by-model.result ≡ model_at (lay a.plan.shape a.numbers a.bytes) a.plan.shape.plane a.x a.y =
+    let model : c.model_by-model.result ≡ model_at (lay a.plan.shape (g.L.Lent.held a.layer)) a.plan.shape.plane a.x a.y =
     rw (c.model_by-model.ensures, c.between-down.ensures.is, c.between-across.ensures.is)
     (model_is a.plan _ _ (across_is _ h) (down_is _ h) _ _) in
-    let l = lay a.plan.shape a.numbers a.bytes in
+    let l = lay a.plan.shape (g.L.Lent.held a.layer) in
     rw (
       c.added.ensures,
       c.lift.ensures,
@@ -29,10 +29,10 @@ returns-then-abs c =
 
 pub returns-else-abs : goal.returns-else-abs
 unfolding under
-returns-else-abs c =
+returns-else-abs g c =
     let a = c.args in
     let h = c.requires.0.lies.sound.planned in
-    let model : c.model_by-model.result ≡ model_at (lay a.plan.shape a.numbers a.bytes) a.plan.shape.plane a.x a.y =
+    let model : c.model_by-model.result ≡ model_at (lay a.plan.shape (g.L.Lent.held a.layer)) a.plan.shape.plane a.x a.y =
     rw (c.model_by-model.ensures, c.between-down.ensures.is, c.between-across.ensures.is)
     (model_is a.plan _ _ (across_is _ h) (down_is _ h) _ _) in
     passes _ _ _ (rw (c.abs.ensures, model) at c.if-abs.false)

@@ -6,10 +6,10 @@ use Rattle.scene_between.specs.Rings.{ring_up_to}
 use Rattle.scene_between.proofs.ring_around.Given as goal
 
 abbrev pub invariant-loop-side : goal.invariant-loop-side
-invariant-loop-side l =
-    (l.grown ≡ ring_up_to (lay l.plan.shape l.numbers l.bytes) l.plan.shape.plane (record { bytes = l.raw; pitch = l.pitch })
+invariant-loop-side g l =
+    (l.grown ≡ ring_up_to (lay l.plan.shape (g.L.Lent.held l.layer)) l.plan.shape.plane (record { bytes = l.raw; pitch = l.pitch })
     l.circle.x l.circle.y l.circle.radius l.side)
     × (l.side ≤ 9)
 
 abbrev pub decreases-loop-side : goal.decreases-loop-side
-decreases-loop-side l = 9 - l.side
+decreases-loop-side g l = 9 - l.side

@@ -6,17 +6,17 @@ use Rattle.scene_between.proofs.rings.Goals as goal
 
 pub returns-then-one : goal.returns-then-one
 unfolding filled_of
-returns-then-one c =
+returns-then-one g c =
     let e = c.ring-one.ensures in
     rw e (mean_is _ _ (rw e at c.if-one.true))
 
 pub returns-then-two : goal.returns-then-two
 unfolding filled_of
-returns-then-two c =
+returns-then-two g c =
     let e = c.ring-two.ensures in
     rw e (mean_is _ _ (rw e at c.if-two.true) ∙ none_is _ _ (rw c.ring-one.ensures at c.if-one.false))
 
 pub returns : goal.returns
 unfolding filled_of
-returns c =
+returns g c =
     rw (c.mean_or.ensures, c.ring-three.ensures) (none_is _ _ (rw c.ring-two.ensures at c.if-two.false) ∙ none_is _ _ (rw c.ring-one.ensures at c.if-one.false))

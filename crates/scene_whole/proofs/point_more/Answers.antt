@@ -5,8 +5,8 @@ use Rattle.scene_whole.proofs.point_more.Goals as goal
 
 pub returns-then-both : goal.returns-then-both
 unfolding gathered_on
-returns-then-both c = let t = sym c.both.ensures ∙ c.if-both.true in sym (simp t)
+returns-then-both g c = let t = sym c.both.ensures ∙ c.if-both.true in sym (simp t)
 
 pub returns-else-both : goal.returns-else-both
 unfolding gathered_on
-returns-else-both c = let t = sym c.both.ensures ∙ c.if-both.false in rw (c.gathered_at.ensures, c.held-column.ensures.0) (sym (simp t))
+returns-else-both g c = let t = sym c.both.ensures ∙ c.if-both.false in rw (c.gathered_at.ensures, c.held-column.ensures.0) (sym (simp t))

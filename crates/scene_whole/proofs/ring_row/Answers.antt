@@ -9,13 +9,13 @@ use Rattle.scene_whole.proofs.ring_row.Goals as goal
 
 pub loop-k-init : goal.loop-k-init
 unfolding turns row_ring
-loop-k-init c = (refl, omega arith)
+loop-k-init g c = (refl, omega arith)
 
 pub loop-k-preserved : goal.loop-k-preserved
 unfolding turns row_ring
-loop-k-preserved c = (rw (c.point_more-grown.ensures, c.loop-k.invariant.0, add-one), omega arith)
+loop-k-preserved g c = (rw (c.point_more-grown.ensures, c.loop-k.invariant.0, add-one), omega arith)
 
 pub returns : goal.returns
-returns c =
+returns g c =
     let at-loop = c.loop-k in
     rw (le_antisymm at-loop.invariant.1 c.loop-k-test.false) at at-loop.invariant.0

@@ -6,10 +6,10 @@ use Rattle.scene_whole.specs.Rings.{row_ring}
 use Rattle.scene_whole.proofs.ring_row.Given as goal
 
 abbrev pub invariant-loop-k : goal.invariant-loop-k
-invariant-loop-k l =
-    (l.grown ≡ row_ring (lay l.plan.shape l.numbers l.bytes) l.plan.shape.plane (record { bytes = l.raw; pitch = l.pitch })
+invariant-loop-k g l =
+    (l.grown ≡ row_ring (lay l.plan.shape (g.L.Lent.held l.layer)) l.plan.shape.plane (record { bytes = l.raw; pitch = l.pitch })
     l.plan.across l.band.x l.band.row l.band.radius l.band.down l.k l.initial.grown)
     × (l.k ≤ 3)
 
 abbrev pub decreases-loop-k : goal.decreases-loop-k
-decreases-loop-k l = 3 - l.k
+decreases-loop-k g l = 3 - l.k
