@@ -1,30 +1,23 @@
 // What a pair of frames adds to a pixel's sums.
 #![tactic(auto)]
 
-ghost use Rattle.std.specs.Prelude.{◌≡◌, cond};
-ghost use Rattle.rules.specs.Literals.{24·0};
-ghost use Rattle.rules.specs.Float.{◌≺◌};
+ghost use Rattle.std.specs.Prelude.{◌≡◌};
 ghost use Rattle.rules.specs.Stats.{one_if_apart, six_terms};
 ghost use Rattle.calls.specs.Lent.{listed};
 
 use rules::Sums;
 
-// 1 for a difference above 24.
-fn past(difference: f32) -> usize
-    ensures { result ≡ cond (24·0 ≺ difference) 1 0 }
-{
-    if difference > 24.0 { 1 } else { 0 }
-}
-
 // 1 for two samples more than 24 apart. Both signs are tried, and no sign is branched on.
-fn is_apart(a: f32, b: f32) -> usize
+#[tactic(auto, using(crate::proofs::Apart::both_signs))]
+fn is_apart(a: f32, b: f32) -> u8
     ensures { result ≡ one_if_apart a b }
 {
     let difference = a - b;
-    past(difference) + past(-difference)
+    u8::from(difference > 24.0) + u8::from(-difference > 24.0)
 }
 
 // The six terms: pb and pa are the moved samples, ib and ia the bytes.
+#[tactic(auto, unfolding(rules::specs::Stats::six_terms))]
 pub fn six_terms(pb: f32, pa: f32, ib: f32, ia: f32) -> Sums
     ensures { listed result ≡ six_terms pb pa ib ia }
 {
@@ -35,6 +28,6 @@ pub fn six_terms(pb: f32, pa: f32, ib: f32, ia: f32) -> Sums
         pp: pb * pb + pa * pa,
         pi: pb * ib + pa * ia,
         ii: ib * ib + ia * ia,
-        apart: float::of_size(apart),
+        apart: f32::from(apart),
     }
 }
