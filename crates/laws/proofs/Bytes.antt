@@ -1,12 +1,15 @@
 -- Numbers as little-endian bytes: how many there are, and that they are read back. Assumes nothing.
 use mathlib.Core.Path.{◌≡◌, refl, ap, ◌∙◌}
-use mathlib.Core.Bool.{true}
+use mathlib.Core.Bool.{Bool, true, false, cond}
 use mathlib.Core.List.{List, [], ◌∷◌, ◌++◌, append_assoc, append-nil}
-use Prim.Native.Nat.{ℕ, zero, suc, ◌+◌, ◌-◌, ◌*◌, ◌/◌, ◌%◌, ◌<◌}
+use Prim.Native.Nat.{ℕ, zero, suc, ◌+◌, ◌-◌, ◌*◌, ◌/◌, ◌%◌, ◌≤◌, ◌<◌}
 use native.Mathlib.Omega.{arith}
-use borrow.Author.Tests.{leb-true, lt-ltb, le-ltb}
-use lib.Dec.{leb}
-use lib.IntN.{ℤ, pos, negsuc}
+use borrow.Author.Tests.{leb-true, ltb-true, ltb-false, lt-ltb, le-ltb}
+use lib.Dec.{leb, ltb}
+use lib.IntN.{ℤ, pos, negsuc, sub_ℕ}
+use mir.Facts.{to_z_pos, to_z-neg}
+use mir.Syntax.{w16}
+use mir.Val.{of_z, to_z}
 use lib.ListN.{length, length-append}
 use Rattle.rules.specs.Forms.{tabulate, each}
 use Rattle.rules.specs.Host.{signed16, entry, numbers}
@@ -50,6 +53,21 @@ bits_back (negsuc n) s =
     let h = leb-true n 32767 (both (leb n 32767) true s).0 in
     let again : 65536 - suc (65535 - n) ≡ n = omega arith in
     rw (le-ltb (65535 - n) 32768 (omega arith), lt-ltb (65535 - n) 65536 (omega arith), again)
+
+-- its bits as the program has them, and the number that the program reads in them
+pub bits_is : (z : ℤ) → of_z w16 z ≡ bits z
+bits_is (pos n) = refl
+bits_is (negsuc n) = omega arith
+
+pub read_is : (n : ℕ) → n < 65536 → to_z w16 n ≡ signed16 n
+read_is n small = go (ltb n 32768) (ltb-true n 32768) (ltb-false n 32768)
+  where
+    go : (b : Bool) → (b ≡ true → n < 32768) → (b ≡ false → 32768 ≤ n) → to_z w16 n ≡ cond b (pos n) (sub_ℕ n 65536)
+    go true low high = to_z_pos w16 (low refl)
+    go false low high =
+        let upper = high refl in
+        let same : 65536 - suc (65535 - n) ≡ n = omega arith in
+        rw (lt-ltb n 65536 small) (rw same at (to_z-neg w16 (65535 - n) (omega arith)) ∙ ap negsuc (omega arith))
 
 pub bits_small : (z : ℤ) → is_short z ≡ true → bits z < 65536
 bits_small (pos n) s = let h = leb-true n 32767 s in omega arith

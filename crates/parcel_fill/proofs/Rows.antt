@@ -1,25 +1,48 @@
 -- Rows of cells behind the offsets of plane 2. Assumes nothing.
 use mathlib.Core.Path.{◌≡◌, refl, sym, ap, ◌∙◌}
 use mathlib.Core.Bool.{Bool, true, false, cond, ◌&&◌}
-use mathlib.Core.List.{List, ◌++◌}
-use Prim.Native.Nat.{ℕ, ◌+◌, ◌-◌, ◌*◌, ◌/◌, ◌≤◌, ◌<◌}
+use mathlib.Core.List.{List, [], ◌∷◌, ◌++◌}
+use Prim.Native.Nat.{ℕ, zero, suc, ◌+◌, ◌-◌, ◌*◌, ◌/◌, ◌≤◌, ◌<◌}
 use native.Mathlib.Nat.{mul-le-mul_right, suc-mul, mul_comm}
 use native.Mathlib.Numerals.{add-one}
 use native.Mathlib.Omega.{arith}
 use borrow.Author.Tests.{lt-ltb, le-ltb}
 use lib.Arith.{digits_div, digits_mod}
+use borrow.Rule.Slice.PartMut.{put_mid}
 use lib.Dec.{ltb}
 use lib.IntN.{ℤ, pos}
-use lib.ListN.{length, get_or, take, drop, length-drop}
+use lib.ListN.{replicate, length, get_or, take, drop, length-drop}
 use lib.Seq.{length-take-le, get_or-take, get_or-drop}
+use Rattle.std.proofs.lemmas.List.{length-replicate}
 use Rattle.rules.specs.Forms.{tabulate, cells}
-use Rattle.rules.specs.Host.{entry, numbers}
+use Rattle.std.specs.Int.{w16, cast_signed, from_le_bytes}
+use Rattle.rules.specs.Host.{signed16, entry, numbers}
 use Rattle.rules.specs.Parcel.{cell_or_zero}
+use Rattle.laws.proofs.Bytes.{read_is}
 use Rattle.laws.proofs.Lists.{get_or-tabulate, length-tabulate, table_same, tabulate-add}
 use Rattle.table.specs.Put.{Put}
-use Rattle.table.proofs.Put.{put_as, put_join}
+use Rattle.table.proofs.Put.{put_part, put_as, put_join}
 use Rattle.parcel_fill.specs.declared.Marks.{Marks}
 use Rattle.parcel_fill.specs.Fills.{zeros, mark_at, mark_row, mark_rows}
+
+-- two bytes as a signed number
+pub pair_is : (low high : ℕ) → low < 256 → high < 256 → cast_signed w16 (from_le_bytes w16 (low ∷ high ∷ [])) ≡ signed16 (low + 256 * high)
+pair_is low high l h = let same : low + high * 256 ≡ low + 256 * high = omega arith in rw same (read_is (low + 256 * high) (omega arith))
+
+-- as many zeros
+zeros_are : (n : ℕ) → replicate n (pos 0) ≡ zeros n
+unfolding tabulate
+zeros_are zero = refl
+zeros_are (suc n) = ap (λ (l : List ℤ). pos 0 ∷ l) (zeros_are n)
+
+-- a part of the output that is filled with them
+pub cleared : (before part : List ℤ) (at n : ℕ) → at + n ≤ length before → part ≡ replicate (length (take (at + n - at) (drop at before))) (pos 0)
+    → Put before at (zeros n) (put_mid at (at + n - at) before part)
+cleared before part at n inside e =
+    let size : at + n - at ≡ n = omega arith in
+    let long : length (take (at + n - at) (drop at before)) ≡ n = rw size (length-take-le n (drop at before) (rw (length-drop at before) (omega arith))) in
+    let zero : part ≡ replicate n (pos 0) = e ∙ rw long in
+    rw size (put_as (put_part before part at n inside (rw zero (length-replicate n (pos 0)))) (zero ∙ zeros_are n))
 
 -- ---- a part of a payload: n numbers, from number s on
 

@@ -11,17 +11,15 @@ fn fill(output: &mut [i16], at: usize, payload: &[u8])
     requires { at + length payload.now / 2 ≤ length output.old }
     ensures { Put output.old at (numbers payload.now) output.new }
 {
-    let count = payload.len() / 2;
-    let mut k = 0;
-    while k < count {
-        output[at + k] = layer_lent::joined(payload[k * 2], payload[k * 2 + 1]);
-        k += 1;
+    for k in 0..payload.len() / 2 {
+        output[at + k] = i16::from_le_bytes([payload[k * 2], payload[k * 2 + 1]]);
     }
 }
 
 // So many numbers, whose bytes lie at a place of a parcel.
 pub fn fill_from(output: &mut [i16], at: usize, parcel: &[u8], start: usize, count: usize)
-    requires { (start + 2 * count ≤ length parcel.now) × (at + count ≤ length output.old) }
+    requires inside { start + 2 * count ≤ length parcel.now }
+    requires room { at + count ≤ length output.old }
     ensures { Put output.old at (numbers (take (2 * count) (drop start parcel.now))) output.new }
 {
     let end = start + 2 * count;
@@ -33,11 +31,8 @@ pub fn clear(output: &mut [i16], at: usize, count: usize)
     requires { at + count ≤ length output.old }
     ensures { Put output.old at (zeros count) output.new }
 {
-    let mut k = 0;
-    while k < count {
-        output[at + k] = 0;
-        k += 1;
-    }
+    let end = at + count;
+    output[at..end].fill(0);
 }
 
 // The size of a layer, and its chroma planes' columns and rows, in which its cells are laid.
@@ -72,10 +67,7 @@ pub fn fill_rows(output: &mut [i16], at: usize, payload: &[u8], marks: Marks)
     ensures { Put output.old at (mark_rows payload.now marks marks.rows) output.new }
 {
     let across = marks.across;
-    let rows = marks.rows;
-    let mut y = 0;
-    while y < rows {
+    for y in 0..marks.rows {
         fill_row(output, at + y * across, payload, marks, y);
-        y += 1;
     }
 }

@@ -1,11 +1,13 @@
 -- Pieces that are put one after another, up to the whole slice. Assumes nothing.
 use mathlib.Core.Path.{◌≡◌, refl, sym, ap, ◌∙◌}
 use mathlib.Core.List.{List, [], ◌∷◌, ◌++◌, append_assoc, append-nil}
-use Prim.Native.Nat.{ℕ, suc, ◌+◌, ◌<◌}
+use Prim.Native.Nat.{ℕ, suc, ◌+◌, ◌≤◌, ◌<◌}
 use native.Mathlib.Nat.{add-zero, add_assoc}
 use native.Mathlib.Omega.{arith}
-use lib.ListN.{length, set, take, length-set, length-append}
-use lib.Seq.{take_all, take-suc-set}
+use borrow.Rule.Slice.PartMut.{put_mid, same_len_mid}
+use lib.ListN.{length, set, take, drop, length-set, length-append, length-drop}
+use lib.Seq.{take_all, take-suc-set, length-take-le}
+use Rattle.std.proofs.lemmas.Slice.{take-put_mid}
 use Rattle.rules.specs.Forms.{tabulate}
 use Rattle.laws.proofs.Lists.{length-tabulate, tabulate_last}
 use Rattle.table.specs.Put.{Put}
@@ -41,6 +43,14 @@ put_one {before = before} {at = at} v inside e =
 pub put_more : {A : Type 0} {before now after piece : List A} {at next : ℕ} (v : A) → Put before at piece now → next ≡ at + length piece → next < length now
     → after ≡ set now next v → Put before at (piece ++ v ∷ []) after
 put_more v done e inside f = put_join done e (put_one v inside f)
+
+-- a part of the slice is overwritten
+pub put_part : {A : Type 0} (xs ys : List A) (at n : ℕ) → at + n ≤ length xs → length ys ≡ n → Put xs at ys (put_mid at n xs ys)
+put_part xs ys at n inside long =
+    record {
+      done = take-put_mid at n xs ys (at + length ys) refl (omega arith);
+      long = same_len_mid at n xs ys (omega (arith, length-take-le n (drop at xs) (omega (arith, length-drop at xs))));
+    }
 
 -- all of it: the slice is the piece
 pub put_whole : {A : Type 0} {before after piece : List A} → Put before 0 piece after → length before ≡ length piece → after ≡ piece

@@ -1,12 +1,6 @@
--- What is left of `parcel_fill::clear`: the invariant at its beginning, and one zero more.
-use Rattle.std.proofs.Common.{refl, arith}
-use Rattle.table.proofs.Put.{table_none, table_more}
+-- What is left of `parcel_fill::clear`: what the part that is filled holds.
+use Rattle.parcel_fill.proofs.Rows.{cleared}
 use Rattle.parcel_fill.proofs.clear.Goals as goal
 
-pub loop-k-init : goal.loop-k-init
-loop-k-init c = (table_none _ _ _, omega arith)
-
-pub loop-k-preserved : goal.loop-k-preserved
-loop-k-preserved c =
-    let long = c.loop-k.invariant.0.long in
-    (table_more _ c.loop-k.k c.loop-k.invariant.0 (omega arith) refl, omega arith)
+pub returns : goal.returns
+returns c = cleared _ _ _ _ c.requires (c.fill.ensures.after (λ y h. h))

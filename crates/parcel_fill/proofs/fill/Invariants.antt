@@ -1,12 +1,8 @@
 -- The invariant of `parcel_fill::fill`: the numbers before k are put.
-use Prim.Native.Nat.{◌-◌, ◌≤◌}
 use Rattle.rules.specs.Forms.{tabulate}
 use Rattle.rules.specs.Host.{entry}
 use Rattle.table.specs.Put.{Put}
 use Rattle.parcel_fill.proofs.fill.Given as goal
 
 abbrev pub invariant-loop-k : goal.invariant-loop-k
-invariant-loop-k l = Put l.initial.output l.at (tabulate l.k (entry l.payload)) l.output × (l.k ≤ l.count)
-
-abbrev pub decreases-loop-k : goal.decreases-loop-k
-decreases-loop-k l = l.count - l.k
+invariant-loop-k l = Put l.initial.output l.at (tabulate l.k (entry l.payload)) l.output

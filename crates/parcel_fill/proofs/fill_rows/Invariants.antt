@@ -1,11 +1,7 @@
 -- The invariant of `parcel_fill::fill_rows`: the rows before y are put.
-use Prim.Native.Nat.{◌-◌, ◌≤◌}
 use Rattle.table.specs.Put.{Put}
 use Rattle.parcel_fill.specs.Fills.{mark_rows}
 use Rattle.parcel_fill.proofs.fill_rows.Given as goal
 
 abbrev pub invariant-loop-y : goal.invariant-loop-y
-invariant-loop-y l = Put l.initial.output l.at (mark_rows l.payload l.marks l.y) l.output × (l.y ≤ l.rows)
-
-abbrev pub decreases-loop-y : goal.decreases-loop-y
-decreases-loop-y l = l.rows - l.y
+invariant-loop-y l = Put l.initial.output l.at (mark_rows l.payload l.marks l.y) l.output
