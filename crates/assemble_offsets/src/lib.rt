@@ -30,7 +30,7 @@ fn term(models: &[f32], at: usize, plane: usize, share: f32) -> i32
     ensures { result ≡ term_of models.now plane share at }
 {
     let offset = stored_offset(models[at * 4 + (1 + plane)] / share);
-    offset.0 as i32
+    i32::from(offset.0)
 }
 
 // A row of a block, added to a total.
@@ -46,31 +46,29 @@ fn total_row(
     ensures { result ≡ row_total models.now plane share place ratio total }
 {
     let mut sum = total;
-    let mut dx = 0;
-    while dx < ratio {
-        sum = sum + term(models, place + dx, plane, share);
-        dx += 1;
+    for dx in 0..ratio {
+        sum += term(models, place + dx, plane, share);
     }
     sum
 }
 
 // The total of a chroma pixel of plane 1 or 2, summed whole.
 fn chroma_total(sizes: Sizes, models: &[f32], plane: usize, x: usize, y: usize) -> i32
-    requires { Formed sizes × ModelsLong models.now sizes × Block sizes plane x y }
+    requires formed { Formed sizes }
+    requires long { ModelsLong models.now sizes }
+    requires block { Block sizes plane x y }
     ensures { result ≡ chroma_total (model_slice models.now (sizes.width * sizes.height)) sizes.width sizes.ratio plane (y * sizes.chroma_width + x) }
 {
     let ratio = sizes.ratio;
     let share = float::of_size(ratio * ratio);
     let mut sum = 0;
-    let mut dy = 0;
-    while dy < ratio {
+    for dy in 0..ratio {
         let place = plane::place(
             plane::place(y, ratio, dy),
             sizes.width,
             plane::place(x, ratio, 0),
         );
         sum = total_row(models, place, ratio, plane, share, sum);
-        dy += 1;
     }
     sum
 }
@@ -79,18 +77,14 @@ fn chroma_total(sizes: Sizes, models: &[f32], plane: usize, x: usize, y: usize) 
 fn held(total: i32) -> Offset
     ensures { result ≡ stored_total total }
 {
-    if total < -32768 {
-        return Offset(-32768);
-    }
-    if 32767 < total {
-        return Offset(32767);
-    }
-    Offset(total as i16)
+    Offset(total.clamp(-32768, 32767) as i16)
 }
 
 // The offset that is stored of a chroma pixel of plane 1 or 2.
 pub fn stored_total(sizes: Sizes, models: &[f32], plane: usize, x: usize, y: usize) -> Offset
-    requires { Formed sizes × ModelsLong models.now sizes × Block sizes plane x y }
+    requires formed { Formed sizes }
+    requires long { ModelsLong models.now sizes }
+    requires block { Block sizes plane x y }
     ensures { result ≡ stored_total (chroma_total (model_slice models.now (sizes.width * sizes.height)) sizes.width sizes.ratio plane (y * sizes.chroma_width + x)) }
 {
     held(chroma_total(sizes, models, plane, x, y))

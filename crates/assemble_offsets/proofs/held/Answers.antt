@@ -1,31 +1,27 @@
--- `assemble_offsets::held` meets its contract. Assumes nothing.
-use mathlib.Core.Path.{◌≡◌, sym}
-use mathlib.Core.Bool.{false}
-use lib.IntN.{pos, negsuc}
-use lib.Signed.{lt_z}
-use mir.Syntax.{w16, w32}
+-- What is left to answer of `assemble_offsets::held`'s goals.
+use mathlib.Core.Path.{◌≡◌, refl, ◌∙◌}
+use mathlib.Core.Bool.{Bool, true, false, cond}
+use lib.Dec.{ltb}
+use lib.IntN.{ℤ, pos, negsuc}
+use mir.Syntax.{w32}
+use Rattle.std.specs.Int.{int_max, int_min}
 use Rattle.rules.specs.Assembly.{stored_total}
-use Rattle.laws.proofs.Signed.{back, mag_within}
+use Rattle.laws.proofs.Signed.{back}
+use Rattle.assemble_offsets.proofs.Signed.{total_back}
 use Rattle.assemble_offsets.proofs.held.Goals as goal
 
-pub returns-then-total-ltminus32768 : goal.returns-then-total-ltminus32768
+-- what `clamp` answers is what an offset holds
+clamped : (total : ℤ) → int_max (negsuc 32767) (int_min total (pos 32767)) ≡ (stored_total total).0
 unfolding stored_total
-returns-then-total-ltminus32768 c =
-    let given = back w32 c.args.total c.ranges.total.sfits in
-    sym (rw (rw given at c.if-total-ltminus32768.true))
-
-pub returns-then-total-gt32767 : goal.returns-then-total-gt32767
-unfolding stored_total
-returns-then-total-gt32767 c =
-    let given = back w32 c.args.total c.ranges.total.sfits in
-    let above : lt_z c.args.total (negsuc 32767) ≡ false = rw given at c.if-total-ltminus32768.false in
-    sym (rw (above, rw given at c.if-total-gt32767.true))
+clamped (pos n) = go (ltb 32767 n)
+  where
+    go : (b : Bool) → int_max (negsuc 32767) (cond b (pos 32767) (pos n)) ≡ cond b (pos 32767) (pos n)
+    go true = refl
+    go false = refl
+clamped (negsuc n) = refl
 
 pub returns : goal.returns
-unfolding stored_total
 returns c =
     let total = c.args.total in
-    let given = back w32 total c.ranges.total.sfits in
-    let above : lt_z total (negsuc 32767) ≡ false = rw given at c.if-total-ltminus32768.false in
-    let below : lt_z (pos 32767) total ≡ false = rw given at c.if-total-gt32767.false in
-    rw (given, back w16 total (mag_within 32767 total above below), above, below)
+    let e = (rw (back w32 total c.ranges.total.sfits) at c.clamp.ensures.value) ∙ clamped total in
+    rw (back w32 c.clamp.result c.clamp.type_inv, e, total_back total) refl

@@ -17,4 +17,4 @@ returns c =
     let z = c.stored_offset-offset.result.0 in
     let is : z ≡ term_of c.args.models.now c.args.plane c.args.share c.args.at = ap (λ (o : Offset). o.0) c.stored_offset-offset.ensures in
     let low : nat_abs z ≤ 32767 = rw is (term_size c.args.models.now c.args.plane c.args.share c.args.at) in
-    rw (again w16 z (omega arith), again w32 z (omega arith)) is
+    rw (c.from.ensures, again w16 z (omega arith), again w32 z (omega arith)) is

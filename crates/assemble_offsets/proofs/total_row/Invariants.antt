@@ -1,12 +1,8 @@
 -- The invariant of `assemble_offsets::total_row`: the sum is the total with the row's first dx terms added.
 use mathlib.Core.Path.{◌≡◌}
-use Prim.Native.Nat.{◌≤◌, ◌-◌}
 use Rattle.assemble_offsets.specs.Sizes.{row_total}
 use Rattle.assemble_offsets.proofs.total_row.Given as goal
 
 abbrev pub invariant-loop-dx : goal.invariant-loop-dx
 invariant-loop-dx l =
-    (l.sum ≡ row_total l.models l.plane l.share l.place l.dx l.total) × (l.dx ≤ l.ratio)
-
-abbrev pub decreases-loop-dx : goal.decreases-loop-dx
-decreases-loop-dx l = l.ratio - l.dx
+    l.sum ≡ row_total l.models l.plane l.share l.place l.dx l.total
