@@ -33,10 +33,8 @@ fn luma_run(luma: &mut [i16], models: &[f32], pixels: usize, lo: usize, hi: usiz
     requires { RunFits luma.old models.now pixels lo hi }
     ensures { Paired (luma_entry (model_slice models.now pixels) pixels) pixels lo hi luma.old luma.new }
 {
-    let mut at = lo;
-    while at < hi {
+    for at in lo..hi {
         put_luma(luma, models, pixels, at);
-        at += 1;
     }
 }
 
@@ -45,91 +43,83 @@ fn cell(cover: &[u8], across: usize, down: usize, x: usize, y: usize) -> u8
     requires { Covered cover.now across down }
     ensures { result ≡ cond (ltb x across && ltb y down) (get_or cover.now (y * across + x) 0) 0 }
 {
-    if x < across {
-        if y < down {
-            let k = plane::place(y, across, x);
-            return cover[k];
+    if x < across && y < down {
+        cover[plane::place(y, across, x)]
+    } else {
+        0
+    }
+}
+
+// What a layer of these sizes is made of: its models and its cover.
+#[derive(Clone, Copy)]
+struct Models<'m> {
+    sizes: Sizes,
+    floats: &'m [f32],
+    cover: &'m [u8],
+    ghost ready: { Source sizes floats.now cover.now },
+}
+
+impl Models<'_> {
+    // What stands at column x of row y in the second half of plane 1 or 2: no cell is in plane 1.
+    fn tail(&self, plane: usize, x: usize, y: usize) -> i16
+        requires { x < self.now.sizes.chroma_width }
+        ensures { result
+            ≡ tail_entry self.now.cover.now (self.now.sizes.width, self.now.sizes.height) self.now.sizes.chroma_width plane
+            (y * self.now.sizes.chroma_width + x) }
+    {
+        if plane == 1 {
+            return 0;
+        }
+        let across = table::cells(self.sizes.width);
+        let down = table::cells(self.sizes.height);
+        i16::from(cell(self.cover, across, down, x, y))
+    }
+
+    // The offset and the cell of a chroma pixel of plane 1 or 2.
+    fn put_chroma(&self, chroma: &mut [i16], plane: usize, x: usize, y: usize)
+        requires long { ChromaLong chroma.old self.now.sizes }
+        requires block { Block self.now.sizes plane x y }
+        ensures { PairPut (chroma_entry (models_of self.now.floats.now self.now.sizes) self.now.cover.now self.now.sizes plane)
+            (points self.now.sizes) (y * self.now.sizes.chroma_width + x) chroma.old chroma.new }
+    {
+        let sizes = self.sizes;
+        let points = plane::place(sizes.chroma_width, sizes.chroma_height, 0);
+        let k = plane::place(y, sizes.chroma_width, x);
+        let offset = assemble_offsets::stored_total(sizes, self.floats, plane, x, y);
+        let cell = self.tail(plane, x, y);
+        table::put_pair(chroma, points, k, offset.0, cell);
+    }
+
+    // Those of a chroma row.
+    fn chroma_run(&self, chroma: &mut [i16], plane: usize, y: usize)
+        requires long { ChromaLong chroma.old self.now.sizes }
+        requires some { 1 ≤ plane }
+        requires few { plane ≤ 2 }
+        requires above { y < self.now.sizes.chroma_height }
+        ensures { PointsStored self.now.sizes (models_of self.now.floats.now self.now.sizes) self.now.cover.now plane
+            (y * self.now.sizes.chroma_width)
+            (y * self.now.sizes.chroma_width + self.now.sizes.chroma_width) chroma.old chroma.new }
+    {
+        for x in 0..self.sizes.chroma_width {
+            self.put_chroma(chroma, plane, x, y);
         }
     }
-    0
-}
 
-// What stands there in the second half of plane 1 or 2: no cell is in plane 1.
-fn tail(sizes: Sizes, cover: &[u8], plane: usize, x: usize, y: usize) -> i16
-    requires { Formed sizes × CoverLong cover.now sizes × (x < sizes.chroma_width) }
-    ensures { result ≡ tail_entry cover.now (sizes.width, sizes.height) sizes.chroma_width plane (y * sizes.chroma_width + x) }
-{
-    if plane == 1 {
-        return 0;
+    // A row of chroma pixels, and the luma pixels that it spans.
+    fn store_row(&self, luma: &mut [i16], chroma1: &mut [i16], chroma2: &mut [i16], y: usize)
+        requires room { Room luma.old chroma1.old chroma2.old self.now.sizes }
+        requires above { y < self.now.sizes.chroma_height }
+        ensures { RowsStored self.now.sizes (models_of self.now.floats.now self.now.sizes) self.now.cover.now y (y + 1)
+            luma.old chroma1.old chroma2.old
+            luma.new chroma1.new chroma2.new }
+    {
+        let pixels = plane::place(self.sizes.width, self.sizes.height, 0);
+        let band = plane::place(self.sizes.ratio, self.sizes.width, 0);
+        let lo = y * band;
+        luma_run(luma, self.floats, pixels, lo, lo + band);
+        self.chroma_run(chroma1, 1, y);
+        self.chroma_run(chroma2, 2, y);
     }
-    let across = table::cells(sizes.width);
-    let down = table::cells(sizes.height);
-    cell(cover, across, down, x, y) as i16
-}
-
-// The offset and the cell of a chroma pixel of plane 1 or 2.
-fn put_chroma(
-    chroma: &mut [i16],
-    sizes: Sizes,
-    models: &[f32],
-    cover: &[u8],
-    plane: usize,
-    x: usize,
-    y: usize,
-)
-    requires { Source sizes models.now cover.now × ChromaLong chroma.old sizes × Block sizes plane x y }
-    ensures { PairPut (chroma_entry (models_of models.now sizes) cover.now sizes plane)
-        (points sizes) (y * sizes.chroma_width + x) chroma.old chroma.new }
-{
-    let points = plane::place(sizes.chroma_width, sizes.chroma_height, 0);
-    let k = plane::place(y, sizes.chroma_width, x);
-    let offset = assemble_offsets::stored_total(sizes, models, plane, x, y);
-    let cell = tail(sizes, cover, plane, x, y);
-    table::put_pair(chroma, points, k, offset.0, cell);
-}
-
-// Those of a chroma row.
-fn chroma_run(
-    chroma: &mut [i16],
-    sizes: Sizes,
-    models: &[f32],
-    cover: &[u8],
-    plane: usize,
-    y: usize,
-)
-    requires { Source sizes models.now cover.now × ChromaLong chroma.old sizes × (1 ≤ plane) × (plane ≤ 2) × (y < sizes.chroma_height) }
-    ensures { PointsStored sizes (models_of models.now sizes) cover.now plane
-        (y * sizes.chroma_width) (y * sizes.chroma_width + sizes.chroma_width) chroma.old chroma.new }
-{
-    let across = sizes.chroma_width;
-    let mut x = 0;
-    while x < across {
-        put_chroma(chroma, sizes, models, cover, plane, x, y);
-        x += 1;
-    }
-}
-
-// A row of chroma pixels, and the luma pixels that it spans.
-fn store_row(
-    luma: &mut [i16],
-    chroma1: &mut [i16],
-    chroma2: &mut [i16],
-    sizes: Sizes,
-    models: &[f32],
-    cover: &[u8],
-    y: usize,
-)
-    requires { Source sizes models.now cover.now × Room luma.old chroma1.old chroma2.old sizes × (y < sizes.chroma_height) }
-    ensures { RowsStored sizes (models_of models.now sizes) cover.now y (y + 1)
-        luma.old chroma1.old chroma2.old
-        luma.new chroma1.new chroma2.new }
-{
-    let pixels = plane::place(sizes.width, sizes.height, 0);
-    let band = plane::place(sizes.ratio, sizes.width, 0);
-    let lo = y * band;
-    luma_run(luma, models, pixels, lo, lo + band);
-    chroma_run(chroma1, sizes, models, cover, 1, y);
-    chroma_run(chroma2, sizes, models, cover, 2, y);
 }
 
 // All of them: the layer.
@@ -141,14 +131,17 @@ pub fn store(
     models: &[f32],
     cover: &[u8],
 )
-    requires { Source sizes models.now cover.now × Room luma.old chroma1.old chroma2.old sizes }
+    requires source { Source sizes models.now cover.now }
+    requires room { Room luma.old chroma1.old chroma2.old sizes }
     ensures { Stored (assembled (models_of models.now sizes) cover.now (sizes.width, sizes.height) sizes.ratio)
         luma.new chroma1.new chroma2.new }
 {
-    let rows = sizes.chroma_height;
-    let mut y = 0;
-    while y < rows {
-        store_row(luma, chroma1, chroma2, sizes, models, cover, y);
-        y += 1;
+    let source = Models {
+        sizes,
+        floats: models,
+        cover,
+    };
+    for y in 0..sizes.chroma_height {
+        source.store_row(luma, chroma1, chroma2, y);
     }
 }
