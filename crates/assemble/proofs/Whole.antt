@@ -1,14 +1,17 @@
 -- A whole call of assemble: refused, or run. Assumes nothing.
-use mathlib.Core.Path.{◌≡◌, refl}
+use mathlib.Core.Path.{◌≡◌, refl, sym}
+use Rattle.std.specs.Prelude.{Ok, Err}
+use Rattle.rules.specs.declared.Refusal.{Refusal}
+use Rattle.laws.proofs.Answered.{number_some}
 use mathlib.Core.List.{List}
 use Prim.Native.Nat.{ℕ, ◌*◌}
-use borrow.Author.Tests.{eqb-true, ne_eqb}
+use borrow.Author.Tests.{eqb-true}
 use lib.IntN.{ℤ}
 use lib.ListN.{length}
 use lib.Ieee.{Float}
 use Rattle.rules.specs.Calls.{AssembleCall}
 use Rattle.rules.specs.Domain.{fit_length, fit_chroma_length, models_length, cover_length}
-use Rattle.rules.specs.Refusals.{assemble_refusal}
+use Rattle.rules.specs.Refusals.{number_of, assemble_refusal}
 use Rattle.rules.specs.Assembly.{model_slice, assembled}
 use Rattle.assemble_store.specs.Entries.{Source, Room, Stored}
 use Rattle.laws.proofs.Accepted.{row_right, exact_in}
@@ -20,16 +23,16 @@ module _ (luma first second : List ℤ) (width height ratio : ℕ) (models : Lis
   abbrev call : AssembleCall
   call = assemble_call width height ratio models cover (fit_of luma first second)
 
-  pub refused : (r : ℕ) → r ≡ assemble_refusal call → (r ≡ 0 → ⊥) → AssembleAnswered call luma first second (record { number = r; count = 0 })
-  refused r e some =
-      record { answer = rw e; slices = rw (← e, ne_eqb r 0 some) (record { luma_is = refl; first_is = refl; second_is = refl }) }
+  pub refused : (r : Refusal) → number_of r ≡ assemble_refusal call → AssembleAnswered call luma first second (Err r)
+  refused r e =
+      record { answer = e; slices = rw (← e, number_some r) (record { luma_is = refl; first_is = refl; second_is = refl }) }
 
   -- no row fits: assembly can run
-  module _ (e : assemble_refusal call ≡ 0) where
+  module _ (e : 0 ≡ assemble_refusal call) where
     pub ready : let sizes = sizes_of width height ratio in Source sizes models cover × Room luma first second sizes
     unfolding assemble_refusal
     ready =
-        let ok = row_right _ refl e in
+        let ok = row_right _ refl (sym e) in
         let t = exact_in luma (first, second) (fit_length (width, height), fit_chroma_length (width, height) ratio) (ok 4 _ refl) in (
           record {
             formed = formed width height ratio (ok 0 _ refl) (ok 1 _ refl);
@@ -40,5 +43,5 @@ module _ (luma first second : List ℤ) (width height ratio : ℕ) (models : Lis
         )
 
     pub ran : (luma' first' second' : List ℤ) → Stored (assembled (model_slice models (width * height)) cover (width, height) ratio) luma' first' second'
-        → AssembleAnswered call luma' first' second' (record { number = 0; count = 0 })
-    ran luma' first' second' done = record { answer = rw e; slices = rw e done }
+        → AssembleAnswered call luma' first' second' (Ok tt)
+    ran luma' first' second' done = record { answer = e; slices = rw (← e) done }

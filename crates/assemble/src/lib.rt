@@ -2,12 +2,12 @@
 #![tactic(auto)]
 
 ghost use Rattle.std.specs.Prelude.{◌≡◌};
-ghost use Rattle.rules.specs.Refusals.{assemble_refusal};
+ghost use Rattle.rules.specs.Refusals.{numbered, assemble_refusal};
 ghost use Rattle.calls.specs.Lent.{fit_of, assemble_call};
 ghost use Rattle.assemble.specs.Call.{sizes_of, AssembleAnswered};
 
 use assemble_offsets::Sizes;
-use rules::Answer;
+use rules::Refusal;
 
 // Chroma's width and height with luma's.
 pub fn sizes_of(width: usize, height: usize, ratio: usize) -> Sizes
@@ -22,8 +22,9 @@ pub fn sizes_of(width: usize, height: usize, ratio: usize) -> Sizes
     }
 }
 
-// The number of the refusal, or 0.
-fn refusal(
+// The tests of assemble, in the order of the table.
+#[tactic(auto, unfolding(rules::specs::Refusals::assemble_refusal, rules::specs::Refusals::first_fitting))]
+fn tested(
     luma: &[i16],
     chroma1: &[i16],
     chroma2: &[i16],
@@ -32,15 +33,17 @@ fn refusal(
     ratio: usize,
     models: &[f32],
     cover: &[u8],
-) -> u8
-    ensures { result ≡ assemble_refusal
+) -> Result<(), Refusal>
+    ensures { numbered result ≡ assemble_refusal
         (assemble_call width height ratio models.now cover.now (fit_of luma.now chroma1.now chroma2.now)) }
 {
-    let first = plane::sizes(width, height);
-    let second = plane::ratioed(ratio, width, height);
-    let third = plane::exact(models.len(), 4, width, height);
-    let fourth = table::exact_cover(cover.len(), width, height);
-    let fifth = plane::exact_planes(
+    plane::ensure(plane::sizes(width, height), Refusal::Size)?;
+    plane::ensure(plane::ratioed(ratio, width, height), Refusal::Ratio)?;
+    let modelled = plane::exact(models.len(), 4, width, height);
+    plane::ensure(modelled, Refusal::Length)?;
+    let covered = table::exact_cover(cover.len(), width, height);
+    plane::ensure(covered, Refusal::Length)?;
+    let room = plane::exact_planes(
         luma.len(),
         chroma1.len(),
         chroma2.len(),
@@ -49,12 +52,7 @@ fn refusal(
         height,
         ratio,
     );
-    let lengths = plane::unless(
-        4,
-        third,
-        plane::unless(4, fourth, plane::unless(4, fifth, 0)),
-    );
-    plane::unless(1, first, plane::unless(2, second, lengths))
+    plane::ensure(room, Refusal::Length)
 }
 
 // Assembles, or refuses: the contract is the equation for both.
@@ -67,19 +65,13 @@ pub fn assemble(
     ratio: usize,
     models: &[f32],
     cover: &[u8],
-) -> Answer
+) -> Result<(), Refusal>
     ensures { AssembleAnswered
         (assemble_call width height ratio models.now cover.now (fit_of luma.old chroma1.old chroma2.old))
         luma.new chroma1.new chroma2.new result }
 {
-    let number = refusal(luma, chroma1, chroma2, width, height, ratio, models, cover);
-    if number != 0 {
-        return Answer { number, count: 0 };
-    }
+    tested(luma, chroma1, chroma2, width, height, ratio, models, cover)?;
     let sizes = sizes_of(width, height, ratio);
     assemble_store::store(luma, chroma1, chroma2, sizes, models, cover);
-    Answer {
-        number: 0,
-        count: 0,
-    }
+    Ok(())
 }

@@ -1,15 +1,17 @@
--- `assemble::assemble` meets its contract. Assumes nothing.
-use mathlib.Core.Path.{sym, ◌∙◌}
+-- What is left to answer of `assemble::assemble`'s goals.
+use Rattle.std.proofs.lemmas.Result.{err_from_is_err_and}
 use Rattle.assemble.proofs.Whole.{refused, ready, ran}
 use Rattle.assemble.proofs.assemble.Goals as goal
 
-pub returns-then-number-ne0 : goal.returns-then-number-ne0
-returns-then-number-ne0 c = refused _ _ _ _ _ _ _ _ _ c.refusal-number.ensures c.if-number-ne0.true
+pub returns-in_err-tested : goal.returns-in_err-tested
+returns-in_err-tested c =
+    let p = err_from_is_err_and c.from_residual.result c.from_residual.ensures.1 in
+    rw (p.1, p.2) (refused _ _ _ _ _ _ _ _ _ c.in_err-tested.ensures)
 
 pub store-requires : goal.store-requires
 store-requires c =
-    rw c.sizes_of-sizes.ensures (ready _ _ _ _ _ _ _ _ (sym c.refusal-number.ensures ∙ c.if-number-ne0.false))
+    let r = ready _ _ _ _ _ _ _ _ c.in_ok-tested.ensures in
+    rw c.sizes_of-sizes.ensures (record { source = r.0; room = r.1 })
 
 pub returns : goal.returns
-returns c =
-    ran _ _ _ _ _ _ _ _ (sym c.refusal-number.ensures ∙ c.if-number-ne0.false) _ _ _ (rw c.sizes_of-sizes.ensures at c.store.ensures)
+returns c = ran _ _ _ _ _ _ _ _ c.in_ok-tested.ensures _ _ _ (rw c.sizes_of-sizes.ensures at c.store.ensures)
