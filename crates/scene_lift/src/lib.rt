@@ -1,8 +1,10 @@
 // Scene values: what a model makes of a sample, and the mean of a ring.
 #![tactic(auto)]
 
-ghost use Rattle.std.specs.Prelude.{◌≡◌};
-ghost use Rattle.rules.specs.Scene.{value as value_of, lift as lift_of, lifted as lifted_of, gathered, mean_or};
+ghost use Rattle.std.specs.Prelude.{◌≡◌, cond};
+ghost use Rattle.rules.specs.Literals.{0·0};
+ghost use Rattle.rules.specs.Float.{◌≺◌, ◌⊘◌};
+ghost use Rattle.rules.specs.Scene.{value as value_of, lift as lift_of, lifted as lifted_of, gathered};
 ghost use Rattle.rules.specs.Unpeel.{relaid as relaid_of};
 
 use rules::{Model, Ring, Scene};
@@ -15,6 +17,7 @@ pub fn lift(sample: f32, model: Model) -> f32
 }
 
 // A sample lifted by a model, or left raw.
+#[tactic(auto, unfolding(rules::specs::Scene::lifted))]
 pub fn lifted(sample: f32, model: Model) -> Scene
     ensures { result ≡ lifted_of sample model }
 {
@@ -30,12 +33,12 @@ pub fn value(scene: Scene) -> f32
     ensures { result ≡ value_of scene }
 {
     match scene {
-        Scene::Lifted(value) => value,
-        Scene::Raw(value) => value,
+        Scene::Lifted(value) | Scene::Raw(value) => value,
     }
 }
 
 // A ring with one lifted value more.
+#[tactic(auto, unfolding(rules::specs::Scene::gathered))]
 pub fn added(ring: Ring, value: f32) -> Ring
     ensures { result ≡ gathered (Scene.Lifted value) ring }
 {
@@ -45,14 +48,14 @@ pub fn added(ring: Ring, value: f32) -> Ring
     }
 }
 
-// The mean of a ring that has any, or else the other.
-pub fn mean_or(ring: Ring, other: Scene) -> Scene
-    ensures { result ≡ mean_or ring other }
+// The mean of a ring that has any.
+pub fn mean(ring: Ring) -> Option<f32>
+    ensures { result ≡ cond (0·0 ≺ ring.count) (Some (ring.total ⊘ ring.count)) None }
 {
     if 0.0 < ring.count {
-        Scene::Lifted(ring.total / ring.count)
+        Some(ring.total / ring.count)
     } else {
-        other
+        None
     }
 }
 
@@ -65,8 +68,8 @@ pub fn relaid(model: Model, first: f32, second: f32, time: f32, old: f32) -> f32
     let middle = float::median(old, lift(first, model), lift(second, model));
     let laid = model.gain * middle + model.offset;
     let change = first - second;
-    let below = float::chosen(-change <= 2.5, mixed, laid);
-    let apart = float::chosen(change <= 2.5, below, laid);
+    let below = plane::chosen(-change <= 2.5, mixed, laid);
+    let apart = plane::chosen(change <= 2.5, below, laid);
     let gain = model.gain;
-    float::chosen(gain < 0.2, float::chosen(-gain < 0.2, mixed, apart), apart)
+    plane::chosen(gain < 0.2, plane::chosen(-gain < 0.2, mixed, apart), apart)
 }
