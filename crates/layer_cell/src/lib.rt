@@ -13,16 +13,19 @@ use layer_lent::{Lent, Plan};
 
 // The end of column k's cell, or of the plane.
 pub fn cell_end(k: usize, side: usize, size: usize) -> usize
-    requires { IsSide side × (2 ≤ side) × (side ≤ 8) × (k < size) × (size ≤ 4096) }
+    requires side { IsSide side }
+    requires inside { k < size }
+    requires small { size ≤ 4096 }
     ensures { CellEnd k side size result }
 {
-    let end = plane::place(layer_lookup::cell_of(k, side), side, side);
-    if end < size { end } else { size }
+    plane::place(layer_lookup::cell_of(k, side), side, side).min(size)
 }
 
 // The number of the cell in this column and row: the one reader of a stored cell.
 pub fn number<L: Lent>(plan: Plan, layer: L, x: usize, y: usize) -> i16
-    requires { Planned plan × CellInside plan x y × ChromaLong plan (L.held layer 2) }
+    requires planned { Planned plan }
+    requires inside { CellInside plan x y }
+    requires long { ChromaLong plan (L.held layer 2) }
     ensures { result ≡ cell_of (holding plan.shape [] [] (L.held layer 2)) x y }
 {
     let k = plane::place(plan.rows + y, plan.shape.chroma_pitch, x);
@@ -31,7 +34,9 @@ pub fn number<L: Lent>(plan: Plan, layer: L, x: usize, y: usize) -> i16
 
 // The distance stored for a pixel.
 pub fn distance<L: Lent>(plan: Plan, layer: L, x: usize, y: usize) -> i16
-    requires { Planned plan × Inside plan x y × ChromaLong plan (L.held layer 2) }
+    requires planned { Planned plan }
+    requires inside { Inside plan x y }
+    requires long { ChromaLong plan (L.held layer 2) }
     ensures { result ≡ distance_of (holding plan.shape [] [] (L.held layer 2)) plan.shape.plane x y }
 {
     let column = layer_lookup::cell_of(x, plan.side);

@@ -19,7 +19,8 @@ fn gain<L: Lent>(layer: L, k: usize) -> Gain
 
 // A total with one gain more.
 fn added<L: Lent>(layer: L, k: usize, total: i32) -> i32
-    requires { (k < length (L.held layer 0)) × (nat_abs total ≤ 524288) }
+    requires inside { k < length (L.held layer 0) }
+    requires small { nat_abs total ≤ 524288 }
     ensures { Added (L.held layer 0) k total result }
 {
     total + gain(layer, k).0 as i32
@@ -27,22 +28,22 @@ fn added<L: Lent>(layer: L, k: usize, total: i32) -> i32
 
 // A row of a pixel's gains, added to a total.
 fn gain_row<L: Lent>(layer: L, row: usize, pitch: usize, x: usize, span: usize, total: i32) -> i32
-    requires { RowFits (L.held layer 0) row pitch x span × (nat_abs total ≤ 393216) }
+    requires fits { RowFits (L.held layer 0) row pitch x span }
+    requires small { nat_abs total ≤ 393216 }
     ensures { RowSummed (L.held layer 0) row pitch x span span total result }
 {
     let mut sum = total;
-    let mut dx = 0;
-    while dx < span {
+    for dx in 0..span {
         let at = plane::place(row, pitch, plane::place(x, span, dx));
         sum = added(layer, at, sum);
-        dx += 1;
     }
     sum
 }
 
 // Two gains of a row, added to a total: the common span, in a straight line.
 fn gain_two<L: Lent>(layer: L, row: usize, pitch: usize, x: usize, total: i32) -> i32
-    requires { RowFits (L.held layer 0) row pitch x 2 × (nat_abs total ≤ 393216) }
+    requires fits { RowFits (L.held layer 0) row pitch x 2 }
+    requires small { nat_abs total ≤ 393216 }
     ensures { RowSummed (L.held layer 0) row pitch x 2 2 total result }
 {
     let k = plane::place(row, pitch, x * 2);
@@ -52,7 +53,10 @@ fn gain_two<L: Lent>(layer: L, row: usize, pitch: usize, x: usize, total: i32) -
 
 // The gain of a pixel that has one.
 pub fn luma_gain<L: Lent>(plan: Plan, layer: L, x: usize, y: usize) -> Gain
-    requires { Planned plan × Inside plan x y × LumaLong plan (L.held layer 0) × (plan.span ≡ 1) }
+    requires planned { Planned plan }
+    requires inside { Inside plan x y }
+    requires long { LumaLong plan (L.held layer 0) }
+    requires one { plan.span ≡ 1 }
     ensures { result ≡ luma_gain (holding plan.shape (L.held layer 0) [] []) x y }
 {
     gain(layer, plane::place(y, plan.shape.luma_pitch, x))
@@ -60,7 +64,10 @@ pub fn luma_gain<L: Lent>(plan: Plan, layer: L, x: usize, y: usize) -> Gain
 
 // The total of the gains of a pixel that has one.
 fn one<L: Lent>(plan: Plan, layer: L, x: usize, y: usize) -> i32
-    requires { Planned plan × Inside plan x y × LumaLong plan (L.held layer 0) × (plan.span ≡ 1) }
+    requires planned { Planned plan }
+    requires inside { Inside plan x y }
+    requires long { LumaLong plan (L.held layer 0) }
+    requires one { plan.span ≡ 1 }
     ensures { Summed plan (L.held layer 0) x y result }
 {
     luma_gain(plan, layer, x, y).0 as i32
@@ -68,7 +75,10 @@ fn one<L: Lent>(plan: Plan, layer: L, x: usize, y: usize) -> i32
 
 // And of one that has two by two.
 fn four<L: Lent>(plan: Plan, layer: L, x: usize, y: usize) -> i32
-    requires { Planned plan × Inside plan x y × LumaLong plan (L.held layer 0) × (plan.span ≡ 2) }
+    requires planned { Planned plan }
+    requires inside { Inside plan x y }
+    requires long { LumaLong plan (L.held layer 0) }
+    requires two { plan.span ≡ 2 }
     ensures { Summed plan (L.held layer 0) x y result }
 {
     let upper = gain_two(layer, y * 2, plan.shape.luma_pitch, x, 0);
@@ -77,7 +87,11 @@ fn four<L: Lent>(plan: Plan, layer: L, x: usize, y: usize) -> i32
 
 // And of either, by a span that is given beside the plan, so that it can be a constant.
 pub fn one_or_four<L: Lent>(plan: Plan, span: usize, layer: L, x: usize, y: usize) -> i32
-    requires { Planned plan × Inside plan x y × LumaLong plan (L.held layer 0) × (plan.span ≡ span) × (span ≤ 2) }
+    requires planned { Planned plan }
+    requires inside { Inside plan x y }
+    requires long { LumaLong plan (L.held layer 0) }
+    requires same { plan.span ≡ span }
+    requires few { span ≤ 2 }
     ensures { Summed plan (L.held layer 0) x y result }
 {
     if span == 1 {
@@ -89,23 +103,25 @@ pub fn one_or_four<L: Lent>(plan: Plan, span: usize, layer: L, x: usize, y: usiz
 
 // The gains of a pixel, row by row.
 fn gain_block<L: Lent>(plan: Plan, layer: L, x: usize, y: usize) -> i32
-    requires { Planned plan × Inside plan x y × LumaLong plan (L.held layer 0) }
+    requires planned { Planned plan }
+    requires inside { Inside plan x y }
+    requires long { LumaLong plan (L.held layer 0) }
     ensures { BlockSummed (L.held layer 0) plan.shape.luma_pitch plan.span x y plan.span result }
 {
     let mut sum = 0;
-    let mut dy = 0;
     let span = plan.span;
-    while dy < span {
+    for dy in 0..span {
         let row = plane::place(y, span, dy);
         sum = gain_row(layer, row, plan.shape.luma_pitch, x, span, sum);
-        dy += 1;
     }
     sum
 }
 
 // The total of a pixel's gains. Through `one_or_four` peel's rings of chroma would take twice as long.
 pub fn gains<L: Lent>(plan: Plan, layer: L, x: usize, y: usize) -> i32
-    requires { Planned plan × Inside plan x y × LumaLong plan (L.held layer 0) }
+    requires planned { Planned plan }
+    requires inside { Inside plan x y }
+    requires long { LumaLong plan (L.held layer 0) }
     ensures { Summed plan (L.held layer 0) x y result }
 {
     if plan.span == 1 {
@@ -119,7 +135,10 @@ pub fn gains<L: Lent>(plan: Plan, layer: L, x: usize, y: usize) -> i32
 
 // The offset of a luma pixel.
 pub fn luma_offset<L: Lent>(plan: Plan, layer: L, x: usize, y: usize) -> Offset
-    requires { Planned plan × Inside plan x y × LumaLong plan (L.held layer 0) × (plan.shape.plane ≡ 0) }
+    requires planned { Planned plan }
+    requires inside { Inside plan x y }
+    requires long { LumaLong plan (L.held layer 0) }
+    requires luma { plan.shape.plane ≡ 0 }
     ensures { result ≡ luma_offset (holding plan.shape (L.held layer 0) [] []) x y }
 {
     let k = plane::place(plan.shape.height + y, plan.shape.luma_pitch, x);
@@ -128,7 +147,9 @@ pub fn luma_offset<L: Lent>(plan: Plan, layer: L, x: usize, y: usize) -> Offset
 
 // And of a chroma pixel.
 pub fn chroma_offset<L: Lent>(plan: Plan, layer: L, x: usize, y: usize) -> Offset
-    requires { Sound plan (L.held layer) × Inside plan x y × (plan.shape.plane ≡ 0 → ⊥) }
+    requires sound { Sound plan (L.held layer) }
+    requires inside { Inside plan x y }
+    requires chroma { plan.shape.plane ≡ 0 → ⊥ }
     ensures { result ≡ stored_chroma (lay plan.shape (L.held layer)) plan.shape.plane x y }
 {
     let k = plane::place(y, plan.shape.chroma_pitch, x);

@@ -15,7 +15,7 @@ overflow_add-result g c =
     let e = c.gain.result.0 in
     let small = c.struct_told-1.given.0.1 in
     let t = c.args.total in
-    rw (back w32 t c.ranges.total.sfits, wide_is e small) (fits_sum t e c.requires.1 small)
+    rw (back w32 t c.ranges.total.sfits, wide_is e small) (fits_sum t e c.requires.small small)
 
 pub returns : goal.returns
 returns g c =
@@ -23,4 +23,4 @@ returns g c =
     let e = g.result.0 in
     let small = c.struct_told-1.given.0.1 in
     let t = c.args.total in
-    rw (back w32 t c.ranges.total.sfits, wide_is e small, back w32 (t +ℤ e) (fits_sum t e c.requires.1 small).sfits) (added_is t e c.requires.1 small (ap (λ (g : Gain). g.0) g.ensures))
+    rw (back w32 t c.ranges.total.sfits, wide_is e small, back w32 (t +ℤ e) (fits_sum t e c.requires.small small).sfits) (added_is t e c.requires.small small (ap (λ (g : Gain). g.0) g.ensures))

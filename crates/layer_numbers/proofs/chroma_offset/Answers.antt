@@ -1,6 +1,7 @@
 -- `layer_numbers::chroma_offset` meets its contract. Assumes nothing.
 use mathlib.Core.Path.{sym}
 use borrow.Author.Tests.{eq-eqb, ne_eqb}
+use lib.Dec.{lit<}
 use mir.Syntax.{w16}
 use Rattle.layer_lent.proofs.Signed.{back}
 use Rattle.layer_numbers.proofs.Places.{chroma_in}
@@ -8,7 +9,7 @@ use Rattle.layer_numbers.proofs.chroma_offset.Goals as goal
 
 pub entry-requires : goal.entry-requires
 entry-requires g c =
-    rw c.place-k.ensures (chroma_in _ _ _ c.requires.0.planned c.requires.1 _ c.requires.0.first_long c.requires.2)
+    record { slice = lit< tt; inside = rw c.place-k.ensures (chroma_in _ _ _ c.requires.sound.planned c.requires.inside _ c.requires.sound.first_long c.requires.chroma) }
 
 pub returns-then-plan-eq1 : goal.returns-then-plan-eq1
 returns-then-plan-eq1 g c =
@@ -16,7 +17,7 @@ returns-then-plan-eq1 g c =
 
 pub entry-requires-2 : goal.entry-requires-2
 entry-requires-2 g c =
-    rw c.place-k.ensures (chroma_in _ _ _ c.requires.0.planned c.requires.1 _ c.requires.0.second_long c.requires.2)
+    record { slice = lit< tt; inside = rw c.place-k.ensures (chroma_in _ _ _ c.requires.sound.planned c.requires.inside _ c.requires.sound.second_long c.requires.chroma) }
 
 pub returns : goal.returns
 returns g c =

@@ -17,6 +17,6 @@ returns g c =
     let e = g.result.0 in
     let small = c.struct_told-1.given.0.1 in
     rw (wide_is e small) (record {
-      is = λ a b. one_is _ _ _ _ _ e (span_is _ c.requires.0) c.requires.3 small (ap (λ (g : Gain). g.0) g.ensures);
+      is = λ a b. one_is _ _ _ _ _ e (span_is _ c.requires.planned) c.requires.one small (ap (λ (g : Gain). g.0) g.ensures);
       small = omega (arith, nat_abs-le e small);
     })
