@@ -62,7 +62,7 @@ pub fn safeteal_mask(
         edge,
         tolerance,
     };
-    told::number(still_mask::mask(still, first, second, pitch, width, height, settings))
+    told::told(still_mask::mask(still, first, second, pitch, width, height, settings))
 }
 
 pub fn safeteal_apply<'f>(
@@ -90,9 +90,13 @@ pub fn safeteal_apply<'f>(
         pitch,
         output_pitch,
         mask_width: still_width,
+    };
+    let frames = still_pixel::Apply {
+        first,
+        second,
         time,
     };
-    told::number(still_apply::apply(output, [first, second], still, numbers))
+    told::told(still_apply::apply(output, &frames, still, numbers))
 }
 
 pub fn safeteal_hold(
@@ -118,9 +122,8 @@ pub fn safeteal_hold(
         pitch: held_pitch,
         output_pitch,
         mask_width,
-        time: 0.0,
     };
-    told::number(still_hold::hold(output, held, mask, numbers))
+    told::told(still_hold::hold(output, held, mask, numbers))
 }
 
 pub fn safeteal_stats<'f, 'm>(

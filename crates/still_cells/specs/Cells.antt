@@ -16,21 +16,6 @@ row_sum bytes row width x across = turns (λ dx n. n + get_or bytes (row * width
 unfoldable pub sum_of : List ℕ → (width across down x y rows : ℕ) → ℕ
 sum_of bytes width across down x y rows = turns (λ dy. row_sum bytes (y * down + dy) width x across across) rows 0
 
--- a sum, and the most that it can be
-pub record Summed (whole most r : ℕ) : Type 0 where
-  pub sum : r ≡ whole
-  pub few : r ≤ most
-
--- a row of a pixel's cells lies within the mask, and its sum fits
-pub record CellRow (bytes : List ℕ) (row width x across total : ℕ) : Type 0 where
-  pub low : row ≤ 65536
-  pub narrow : width ≤ 65536
-  pub near : x ≤ 65536
-  pub small : across ≤ 8
-  pub left : x * across + across ≤ 65536
-  pub inside : row * width + (x * across + across) ≤ length bytes
-  pub few : total ≤ 16320
-
 -- the cells of pixel (x, y) lie within the mask
 pub record PixelCells (bytes : List ℕ) (width across down x y : ℕ) : Type 0 where
   pub near : (x ≤ 65536) × (y ≤ 65536)

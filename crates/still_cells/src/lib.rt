@@ -1,13 +1,13 @@
 // The mask cells of a pixel: the steps from pixels to cells, and the sum of a pixel's cells.
 #![tactic(auto)]
 
-ghost use Rattle.std.specs.Prelude.{◌≡◌, ◌&&◌, ◌+◌, ◌*◌, ◌/◌, ◌≤◌, leb};
+ghost use Rattle.std.specs.Prelude.{◌≡◌, ℕ, ◌&&◌, ◌+◌, ◌*◌, ◌/◌, ◌≤◌, leb};
 ghost use Rattle.rules.specs.Domain.{are_steps};
 ghost use Rattle.calls.specs.Lent.{mask_of};
-ghost use Rattle.still_cells.specs.Cells.{row_sum, sum_of, steps_of, Summed, CellRow, PixelCells};
+ghost use Rattle.still_cells.specs.Cells.{sum_of, steps_of, PixelCells};
 
 // The numbers of a call of hold or apply: the plane's width and height, the pitch of what is read and that of the
-// output, the mask's width, and the time between two frames.
+// output, and the mask's width.
 #[derive(Clone, Copy)]
 pub struct Numbers {
     pub width: usize,
@@ -15,21 +15,70 @@ pub struct Numbers {
     pub pitch: usize,
     pub output_pitch: usize,
     pub mask_width: usize,
-    pub time: f32,
 }
 
-// How many mask cells a pixel has across and down.
+// How many mask cells a pixel has across and down: as numbers, or as constants, for which a loop is compiled apart.
+pub trait Cells: Copy {
+    ghost across: { Self → ℕ };
+
+    ghost down: { Self → ℕ };
+
+    // Whether a pixel that stays is passed over. Where it isn't, a row is a loop without a branch.
+    const SKIPS: bool;
+
+    fn across(self) -> usize
+        ensures { result ≡ across self };
+
+    fn down(self) -> usize
+        ensures { result ≡ down self };
+}
+
 #[derive(Clone, Copy)]
 pub struct Steps {
     pub across: usize,
     pub down: usize,
 }
 
+impl Cells for Steps {
+    ghost across = { λ s. s.across };
+
+    ghost down = { λ s. s.down };
+
+    const SKIPS: bool = true;
+
+    fn across(self) -> usize {
+        self.across
+    }
+
+    fn down(self) -> usize {
+        self.down
+    }
+}
+
+#[derive(Clone, Copy)]
+pub struct Fixed<const ACROSS: usize, const DOWN: usize>;
+
+impl<const ACROSS: usize, const DOWN: usize> Cells for Fixed<ACROSS, DOWN> {
+    ghost across = { λ _. ACROSS };
+
+    ghost down = { λ _. DOWN };
+
+    const SKIPS: bool = false;
+
+    fn across(self) -> usize {
+        ACROSS
+    }
+
+    fn down(self) -> usize {
+        DOWN
+    }
+}
+
 // A whole step of 1 to 8.
 fn whole_step(exact: bool, step: usize) -> bool
     ensures { result ≡ (exact && leb 1 step && leb step 8) }
 {
-    plane::all(exact, 1 <= step, step <= 8)
+    exact & (1..=8).contains(&step)
 }
 
 // How many cells a pixel has down. The product of the two sides, which may not fit, is not made.
@@ -44,18 +93,11 @@ pub fn stepped(mask: &[u8], numbers: Numbers) -> bool
     ensures { result ≡ are_steps (mask_of mask.now numbers.mask_width) (numbers.width, numbers.height) }
 {
     let cells = mask.len();
-    let across = whole_step(
-        plane::divides(numbers.width, numbers.mask_width),
-        plane::divided(numbers.mask_width, numbers.width),
-    );
-    let exact = plane::both(
-        plane::divides(numbers.mask_width, cells),
-        plane::divides(numbers.height, plane::divided(cells, numbers.mask_width)),
-    );
-    plane::both(
-        across,
-        whole_step(exact, step_down(cells, numbers.mask_width, numbers.height)),
-    )
+    let across = plane::divided(numbers.mask_width, numbers.width);
+    let rows = plane::divided(cells, numbers.mask_width);
+    let exact = plane::divides(numbers.mask_width, cells) & plane::divides(numbers.height, rows);
+    let down = step_down(cells, numbers.mask_width, numbers.height);
+    whole_step(plane::divides(numbers.width, numbers.mask_width), across) & whole_step(exact, down)
 }
 
 // Its steps.
@@ -68,33 +110,27 @@ pub fn steps_of(mask: &[u8], numbers: Numbers) -> Steps
 }
 
 // How many cells a pixel has.
-pub fn cell_count(across: usize, down: usize) -> u32
-    requires { (across ≤ 8) × (down ≤ 8) }
-    ensures { result ≡ across * down }
+pub fn cell_count<C: Cells>(steps: C) -> u32
+    requires narrow { C.across steps ≤ 8 }
+    requires low { C.down steps ≤ 8 }
+    ensures { result ≡ C.across steps * C.down steps }
 {
-    (across * down) as u32
+    (steps.across() * steps.down()) as u32
 }
 
-// A row of a pixel's cells, added to a total.
-fn byte_row(mask: &[u8], row: usize, width: usize, x: usize, across: usize, total: u32) -> u32
-    requires { CellRow mask.now row width x across total }
-    ensures { Summed (row_sum mask.now row width x across across total) (total + 255 * across) result }
+// "the byte sum" of a pixel.
+pub fn byte_sum<C: Cells>(mask: &[u8], width: usize, steps: C, x: usize, y: usize) -> u32
+    requires { PixelCells mask.now width (C.across steps) (C.down steps) x y }
+    ensures sum { result ≡ sum_of mask.now width (C.across steps) (C.down steps) x y (C.down steps) }
+    ensures few { result ≤ 255 * (C.across steps * C.down steps) }
 {
-    let first = plane::place(row, width, x * across);
-    still_run::run(mask, first, across, total)
-}
-
-// "the byte sum" of a pixel, of so many cells across and down.
-pub fn byte_sum(mask: &[u8], width: usize, across: usize, down: usize, x: usize, y: usize) -> u32
-    requires { PixelCells mask.now width across down x y }
-    ensures { Summed (sum_of mask.now width across down x y down) (255 * (across * down)) result }
-{
+    let across = steps.across();
+    let down = steps.down();
     let mut n = 0;
-    let mut dy = 0;
-    while dy < down {
+    for dy in 0..down {
         let row = plane::place(y, down, dy);
-        n = byte_row(mask, row, width, x, across, n);
-        dy += 1;
+        let first = plane::place(row, width, x * across);
+        n += still_run::run(&mask[first..first + across]);
     }
     n
 }

@@ -9,7 +9,7 @@ ghost use Rattle.still_pass.specs.Pass.{Passed};
 
 use rules::Refusal;
 use still_cells::Numbers;
-use still_rows::Work;
+use still_pixel::Hold;
 
 // The tests of hold, in the order of the table.
 #[tactic(auto, unfolding(rules::specs::Refusals::hold_refusal, rules::specs::Refusals::first_fitting, rules::specs::Forms::each))]
@@ -40,6 +40,6 @@ pub fn hold(output: &mut [u8], held: &[u8], mask: &[u8], numbers: Numbers) -> Re
 {
     tested(output, held, mask, numbers)?;
     let steps = still_cells::steps_of(mask, numbers);
-    still_steps::pass(output, Work::Hold, [held, held], mask, numbers, steps);
+    still_steps::pass(output, Hold { held }, mask, numbers, steps);
     Ok(())
 }

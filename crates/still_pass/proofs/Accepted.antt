@@ -2,7 +2,7 @@
 use mathlib.Core.Path.{◌≡◌}
 use mathlib.Core.Bool.{Bool, true, ◌&&◌}
 use mathlib.Core.List.{List, ◌∷◌}
-use Prim.Native.Nat.{ℕ, ◌-◌, ◌≤◌, ◌<◌}
+use Prim.Native.Nat.{ℕ, ◌+◌, ◌-◌, ◌*◌, ◌≤◌, ◌<◌}
 use native.Mathlib.Nat.{mul-le-mul_right}
 use native.Mathlib.Omega.{arith}
 use borrow.Author.Tests.{leb-true}
@@ -39,3 +39,7 @@ plane_as_long p e = record { near = p.near; apart = p.apart; inside = omega (ari
 
 pub row_as_long : {bytes other : List ℕ} {pitch width y : ℕ} → RowIn bytes pitch width y → length other ≡ length bytes → RowIn other pitch width y
 row_as_long p e = record { near = p.near; apart = p.apart; inside = omega (arith, p.inside) }
+
+-- every place of a plane lies within its bytes
+pub all_in : {bytes : List ℕ} {pitch : ℕ} {size : ℕ × ℕ} → PlaneIn bytes pitch size → (k : ℕ) → k < (size.1 - 1) * pitch + size.0 → k < length bytes
+all_in p k below = omega (arith, p.inside)

@@ -1,61 +1,104 @@
 // What hold and apply do to one pixel, by the sum of its mask cells.
 #![tactic(auto)]
 
-ghost use Rattle.std.specs.Prelude.{◌≡◌, cond, ◌*◌, ◌≤◌, ◌<◌, ltb, length, get_or};
-ghost use Rattle.rules.specs.Float.{float, mix, pixel};
+ghost use Rattle.std.specs.Prelude.{◌≡◌, Bool, ℕ, cond, ◌*◌, ◌≤◌, ◌<◌, ltb, length, get_or};
+ghost use Rattle.rules.specs.Float.{float, mix, pixel as pixel_of};
 ghost use Rattle.rules.specs.Still.{weighed as weighed_of};
-ghost use Rattle.still_pixel.specs.Weight.{Weight};
+
+// The sum of a pixel's mask cells, and how many they are.
+#[derive(Clone, Copy)]
+pub struct Weight {
+    pub sum: u32,
+    pub cells: u32,
+    pub ghost some: { 1 ≤ cells },
+    pub ghost few: { cells ≤ 64 },
+    pub ghost most: { sum ≤ 255 * cells },
+}
+
+impl Weight {
+    // The most that the sum can be.
+    fn full(self) -> u32
+        ensures { result ≡ 255 * self.cells }
+    {
+        255 * self.cells
+    }
+}
+
+// What is done with the pixels of a plane, by the frames that are read: which are written, by their sums, and the byte
+// that then stands there.
+pub trait Work: Copy {
+    // place k lies within the frames
+    ghost reads: { Self → (k : ℕ) → Type 0 };
+
+    ghost writes: { Self → (sum cells : ℕ) → Bool };
+
+    ghost byte: { Self → (k old sum cells : ℕ) → ℕ };
+
+    // A pixel that stays is passed over, or, where `skips` is false, reckoned like the others: a row is then a loop
+    // without a branch.
+    fn pixel(self, k: usize, old: u8, weight: Weight, skips: bool) -> u8
+        requires { reads self k }
+        ensures { result ≡ cond (writes self weight.sum weight.cells) (byte self k old weight.sum weight.cells) old };
+}
+
+// By hold: bytes are weighed with the bytes of a plane that is kept.
+#[derive(Clone, Copy)]
+pub struct Hold<'a> {
+    pub held: &'a [u8],
+}
+
+// By apply: two frames are mixed.
+#[derive(Clone, Copy)]
+pub struct Apply<'a> {
+    pub first: &'a [u8],
+    pub second: &'a [u8],
+    pub time: f32,
+}
 
 // Two bytes weighed: of the full weight, the sum is for the byte that was made.
+#[tactic(auto, unfolding(rules::specs::Still::weighed))]
 fn weighed(kept: u8, made: u8, sum: u32, full: u32) -> u8
-    requires { (sum ≤ full) × (1 ≤ full) × (full ≤ 16320) }
+    requires low { sum ≤ full }
+    requires some { 1 ≤ full }
+    requires few { full ≤ 16320 }
     ensures { result ≡ weighed_of kept made sum full }
 {
-    let mixed = kept as u32 * (full - sum) + made as u32 * sum;
+    let mixed = u32::from(kept) * (full - sum) + u32::from(made) * sum;
     ((mixed + full / 2) / full) as u8
 }
 
-// By hold: what the byte that was made becomes, with the one that is kept. A pixel of full sum stays. It is passed over
-// before it is weighed, or, where `skip` is false, weighed like the others: a row is then a loop without a branch.
-pub fn held(kept: u8, made: u8, sum: u32, cells: u32, skip: bool) -> u8
-    requires { Weight sum cells }
-    ensures { result ≡ cond (ltb sum (255 * cells)) (weighed_of kept made sum (255 * cells)) made }
-{
-    let full = 255 * cells;
-    if plane::both(skip, sum == full) {
-        return made;
+impl Work for Hold<'_> {
+    ghost reads = { λ s k. k < length s.held.now };
+
+    ghost writes = { λ _ sum cells. ltb sum (255 * cells) };
+
+    ghost byte = { λ s k old sum cells. weighed_of (get_or s.held.now k 0) old sum (255 * cells) };
+
+    #[tactic(auto, using(crate::proofs::Weights::whole))]
+    fn pixel(self, k: usize, made: u8, weight: Weight, skips: bool) -> u8 {
+        let full = weight.full();
+        if skips & (weight.sum == full) {
+            return made;
+        }
+        let kept = self.held[k];
+        weighed(kept, made, weight.sum, full)
     }
-    weighed(kept, made, sum, full)
 }
 
-// Whether enough of a pixel's cells are still.
-fn mixes(sum: u32, cells: u32) -> bool
-    requires { Weight sum cells }
-    ensures { result ≡ ltb (4 * cells) (10 * sum) }
-{
-    10 * sum > 4 * cells
-}
+impl Work for Apply<'_> {
+    ghost reads = { λ s k. (k < length s.first.now) × (k < length s.second.now) };
 
-// By apply: what a byte becomes, with place k of two frames. A pixel that stays is passed over before it is mixed, or,
-// where `skip` is false, after.
-pub fn applied(
-    first: &[u8],
-    second: &[u8],
-    time: f32,
-    k: usize,
-    old: u8,
-    sum: u32,
-    cells: u32,
-    skip: bool,
-) -> u8
-    requires { (k < length first.now) × (k < length second.now) × Weight sum cells }
-    ensures { result ≡ cond (ltb (4 * cells) (10 * sum)) (pixel (mix (float (get_or first.now k 0)) (float (get_or second.now k 0)) time)) old }
-{
-    let yes = mixes(sum, cells);
-    if plane::both(skip, !yes) {
-        return old;
+    ghost writes = { λ _ sum cells. ltb (4 * cells) (10 * sum) };
+
+    ghost byte = { λ s k _ _ _. pixel_of (mix (float (get_or s.first.now k 0)) (float (get_or s.second.now k 0)) s.time) };
+
+    fn pixel(self, k: usize, old: u8, weight: Weight, skips: bool) -> u8 {
+        let mixes = 10 * weight.sum > 4 * weight.cells;
+        if skips & !mixes {
+            return old;
+        }
+        let a = float::of_byte(self.first[k]);
+        let b = float::of_byte(self.second[k]);
+        plane::chosen(mixes, float::pixel(float::mix(a, b, self.time)), old)
     }
-    let a = float::of_byte(first[k]);
-    let b = float::of_byte(second[k]);
-    plane::chosen(yes, float::pixel(float::mix(a, b, time)), old)
 }

@@ -1,112 +1,51 @@
-// A pass of hold or apply over a plane, row by row. A row is a loop of its own for each.
+// A pass of hold or apply over a plane, row by row. For each work, and for steps that are constants, a loop is compiled
+// apart.
 #![tactic(auto)]
 
-ghost use Rattle.still_rows.specs.Rows.{hold_by, apply_by, rule_of, RowBy, RowsBy, Reads, RowAsks, PassAsks};
-ghost use Rattle.plane.specs.Slices.{slice};
+ghost use Rattle.std.specs.Prelude.{ℕ, ◌+◌, ◌*◌, ◌≤◌, ◌<◌};
+ghost use Rattle.still_pass.specs.Pass.{RowPainted, RowsPainted, RowIn, PlaneIn};
+ghost use Rattle.still_cells.specs.Cells.{RowCells, PlaneCells};
+ghost use Rattle.still_rows.specs.Rows.{ruled, Reads};
 
-use still_cells::Numbers;
+use still_cells::{Cells, Numbers};
+use still_pixel::{Weight, Work};
 
-// What is done with a plane: its bytes are weighed with the bytes of one that is kept, or two frames are mixed.
-#[derive(Clone, Copy)]
-pub enum Work {
-    Hold,
-    Apply,
-}
-
-// One row by hold.
-fn hold_row(
+// One row.
+#[tactic(auto, using(still_pass::proofs::Pass::row_none, still_pass::proofs::Pass::row_more, crate::proofs::Pixels::ruled_put))]
+fn row<W: Work, C: Cells>(
     output: &mut [u8],
-    held: &[u8],
+    work: W,
     mask: &[u8],
     numbers: Numbers,
-    across: usize,
-    down: usize,
-    skip: bool,
+    steps: C,
     y: usize,
 )
-    requires { RowAsks output.old mask.now numbers across down y × Reads held.now numbers y }
-    ensures { RowBy (hold_by held.now mask.now numbers across down) numbers y output.old output.new }
+    requires room { RowIn output.old numbers.output_pitch numbers.width y }
+    requires cells { RowCells mask.now numbers.mask_width (C.across steps) (C.down steps) numbers.width y }
+    requires pitch { numbers.pitch ≤ 65536 }
+    requires frames { (x : ℕ) → x < numbers.width → W.reads work (y * numbers.pitch + x) }
+    ensures { RowPainted (ruled (W.writes work) (W.byte work) mask.now numbers (C.across steps) (C.down steps)) numbers.output_pitch y numbers.width output.old output.new }
 {
-    let cells = still_cells::cell_count(across, down);
-    let mut x = 0;
-    while x < numbers.width {
+    let cells = still_cells::cell_count(steps);
+    for x in 0..numbers.width {
         let k = plane::place(y, numbers.output_pitch, x);
         let from = plane::place(y, numbers.pitch, x);
-        let made = output[k];
-        let sum = still_cells::byte_sum(mask, numbers.mask_width, across, down, x, y);
-        let kept = held[from];
-        output[k] = still_pixel::held(kept, made, sum, cells, skip);
-        x += 1;
-    }
-}
-
-// One row by apply.
-fn apply_row(
-    output: &mut [u8],
-    first: &[u8],
-    second: &[u8],
-    mask: &[u8],
-    numbers: Numbers,
-    across: usize,
-    down: usize,
-    skip: bool,
-    y: usize,
-)
-    requires { RowAsks output.old mask.now numbers across down y × Reads first.now numbers y × Reads second.now numbers y }
-    ensures { RowBy (apply_by first.now second.now mask.now numbers across down) numbers y output.old output.new }
-{
-    let cells = still_cells::cell_count(across, down);
-    let mut x = 0;
-    while x < numbers.width {
-        let k = plane::place(y, numbers.output_pitch, x);
-        let from = plane::place(y, numbers.pitch, x);
-        let sum = still_cells::byte_sum(mask, numbers.mask_width, across, down, x, y);
-        let old = output[k];
-        output[k] = still_pixel::applied(first, second, numbers.time, from, old, sum, cells, skip);
-        x += 1;
-    }
-}
-
-// One row by either.
-fn row(
-    output: &mut [u8],
-    work: Work,
-    frames: [&[u8]; 2],
-    mask: &[u8],
-    numbers: Numbers,
-    across: usize,
-    down: usize,
-    skip: bool,
-    y: usize,
-)
-    requires { RowAsks output.old mask.now numbers across down y × Reads (slice frames 0) numbers y × Reads (slice frames 1) numbers y }
-    ensures { RowBy (rule_of work frames.entry mask.now numbers across down) numbers y output.old output.new }
-{
-    match work {
-        Work::Hold => hold_row(output, frames[0], mask, numbers, across, down, skip, y),
-        Work::Apply => apply_row(
-            output, frames[0], frames[1], mask, numbers, across, down, skip, y,
-        ),
+        let sum = still_cells::byte_sum(mask, numbers.mask_width, steps, x, y);
+        let weight = Weight { sum, cells };
+        output[k] = work.pixel(from, output[k], weight, C::SKIPS);
     }
 }
 
 // The rows, one after the other.
-pub fn rows(
-    output: &mut [u8],
-    work: Work,
-    frames: [&[u8]; 2],
-    mask: &[u8],
-    numbers: Numbers,
-    across: usize,
-    down: usize,
-    skip: bool,
-)
-    requires { PassAsks output.old frames mask.now numbers across down }
-    ensures { RowsBy (rule_of work frames.entry mask.now numbers across down) numbers output.old output.new }
+#[tactic(auto, using(still_pass::proofs::Pass::rows_none))]
+pub fn rows<W: Work, C: Cells>(output: &mut [u8], work: W, mask: &[u8], numbers: Numbers, steps: C)
+    requires room { PlaneIn output.old numbers.output_pitch (numbers.width, numbers.height) }
+    requires cells { PlaneCells mask.now numbers.mask_width (C.across steps) (C.down steps) (numbers.width, numbers.height) }
+    requires pitch { numbers.pitch ≤ 65536 }
+    requires frames { Reads (W.reads work) numbers }
+    ensures { RowsPainted (ruled (W.writes work) (W.byte work) mask.now numbers (C.across steps) (C.down steps)) numbers.output_pitch numbers.width numbers.height output.old output.new }
 {
-    let mut y = 0;
-    while y < numbers.height {
-        row(output, work, frames, mask, numbers, across, down, skip, y);
-        y += 1;
+    for y in 0..numbers.height {
+        row(output, work, mask, numbers, steps, y);
     }
 }

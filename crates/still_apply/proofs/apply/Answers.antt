@@ -1,17 +1,26 @@
 -- What is asked of the pass follows from the tests, and its rule by these steps is apply's.
-use mathlib.Core.Path.{sym, ◌∙◌}
-use Rattle.still_pass.proofs.Pass.{ran}
+use mathlib.Core.Path.{sym}
+use Rattle.std.proofs.lemmas.Result.{err_from_is_err_and}
+use Rattle.still_pass.proofs.Pass.{refused, ran}
+use Rattle.still_pass.proofs.Accepted.{all_in}
 use Rattle.still_apply.proofs.Runs.{rule_is, runs}
 use Rattle.still_apply.proofs.apply.Goals as goal
 
 pub pass-requires : goal.pass-requires
 pass-requires c =
     let a = c.args in
-    rw c.steps_of-steps.ensures
-    (runs a.output.now a.frames a.mask.now a.numbers (sym c.apply_refusal-number.ensures ∙ c.if-number-ne0.false))
+    let f = a.frames.now in
+    let r = runs a.output.now f.first.now f.second.now a.mask.now f.time a.numbers (sym c.in_ok-tested.ensures) in
+    rw c.steps_of-steps.ensures (record { room = r.0; cells = r.1; pitch = r.2.apart; frames = λ k h. (all_in r.2 k h, all_in r.3 k h) })
+
+pub returns-in_err-tested : goal.returns-in_err-tested
+returns-in_err-tested c =
+    let p = err_from_is_err_and c.from_residual.result c.from_residual.ensures.1 in
+    rw (p.1, p.2) (refused _ _ _ _ c.in_err-tested.ensures)
 
 pub returns : goal.returns
 returns c =
     let a = c.args in
-    ran _ _ _ _ c.apply_refusal-number.ensures _ c.if-number-ne0.false
-    (rw (c.steps_of-steps.ensures, ← rule_is a.output.now a.frames a.mask.now a.numbers) at c.pass.ensures.bytes)
+    let f = a.frames.now in
+    ran _ _ _ _ c.in_ok-tested.ensures
+    (rw (c.steps_of-steps.ensures, ← rule_is a.output.now f.first.now f.second.now a.mask.now f.time a.numbers) at c.pass.ensures.bytes)

@@ -2,6 +2,7 @@
 use mathlib.Core.Path.{sym}
 use Rattle.std.proofs.lemmas.Result.{err_from_is_err_and}
 use Rattle.still_pass.proofs.Pass.{refused, ran}
+use Rattle.still_pass.proofs.Accepted.{all_in}
 use Rattle.still_hold.proofs.Runs.{rule_is, runs}
 use Rattle.still_hold.proofs.hold.Goals as goal
 
@@ -9,7 +10,7 @@ pub pass-requires : goal.pass-requires
 pass-requires c =
     let a = c.args in
     let r = runs a.output.now a.held.now a.mask.now a.numbers (sym c.in_ok-tested.ensures) in
-    rw c.steps_of-steps.ensures (record { room = r.0; first = r.1; second = r.1; cells = r.2 })
+    rw c.steps_of-steps.ensures (record { room = r.0; cells = r.1; pitch = r.2.apart; frames = all_in r.2 })
 
 pub returns-in_err-tested : goal.returns-in_err-tested
 returns-in_err-tested c =
