@@ -636,13 +636,13 @@ pub fn safeteal_parcel_read(
         (read_by parcel.now luma.old chroma1.old chroma2.old)
         luma.new chroma1.new chroma2.new result }
 {
-    parcel_read::read(luma, chroma1, chroma2, parcel)
+    parcel_read::told(parcel_read::read(luma, chroma1, chroma2, parcel))
 }
 
 pub fn safeteal_parcel_sizes(parcel: &[u8]) -> Sizes
     ensures { result ≡ parcel_sizes_answer parcel.now }
 {
-    parcel_read::sizes_of(parcel)
+    parcel_read::told(parcel_read::sizes_of(parcel))
 }
 
 pub fn safeteal_walk_start(width: usize, height: usize, ratio: usize, pairs: usize) -> Walked

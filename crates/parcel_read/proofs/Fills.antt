@@ -33,13 +33,13 @@ numbers_long parcel start count h =
 pub product : {a b c d : ℕ} → a ≡ c → b ≡ d → a * b ≡ c * d
 product e f = rw (e, f)
 
-pub few : (s : Contents) (parcel : List ℕ) → Opened parcel s → points_of s ≤ 16777216
+pub few : (s : Contents) (parcel : List ℕ) → Opened parcel s → points_of s.head ≤ 16777216
 few s parcel o = mul-le-mul o.across.1 o.down.1
 
-pub few_marks : (s : Contents) (parcel : List ℕ) → Opened parcel s → cells s.width * cells s.height ≤ 4096 * 4096
+pub few_marks : (s : Contents) (parcel : List ℕ) → Opened parcel s → cells s.head.width * cells s.head.height ≤ 4096 * 4096
 few_marks s parcel o =
-    let wide : cells s.width ≤ 4096 = omega (arith, o.wide.1) in
-    let tall : cells s.height ≤ 4096 = omega (arith, o.tall.1) in
+    let wide : cells s.head.width ≤ 4096 = omega (arith, o.wide.1) in
+    let tall : cells s.head.height ≤ 4096 = omega (arith, o.tall.1) in
     mul-le-mul wide tall
 
 -- ---- two pieces that fill a slice
@@ -55,15 +55,15 @@ module _ (parcel : List ℕ) (s : Contents) (o : Opened parcel s) where
   abbrev at : (start count : ℕ) → List ℤ
   at start count = numbers (take (2 * count) (drop start parcel))
 
-  pub luma_read : {before now after : List ℤ} → length before ≡ 2 * (s.width * s.height) → Put before 0 (at s.places.gains.start (s.width * s.height)) now
-      → Put now (s.width * s.height) (at s.places.offsets.start (s.width * s.height)) after → after ≡ (layer_read parcel).luma
+  pub luma_read : {before now after : List ℤ} → length before ≡ 2 * (s.head.width * s.head.height) → Put before 0 (at s.places.gains.start (s.head.width * s.head.height)) now
+      → Put now (s.head.width * s.head.height) (at s.places.offsets.start (s.head.width * s.head.height)) after → after ≡ (layer_read parcel).luma
   unfolding layer_read
   luma_read long a b =
-      let pixels = s.width * s.height in
+      let pixels = s.head.width * s.head.height in
       rw (o.gains.payload, o.offsets.payload)
       (both_put pixels (numbers_long parcel s.places.gains.start pixels o.gains.inside) (numbers_long parcel s.places.offsets.start pixels o.offsets.inside) long a b)
 
-  pub first_read : (points : ℕ) → points ≡ points_of s → {before now after : List ℤ} → length before ≡ 2 * points_of s → Put before 0 (at s.places.first.start points) now
+  pub first_read : (points : ℕ) → points ≡ points_of s.head → {before now after : List ℤ} → length before ≡ 2 * points_of s.head → Put before 0 (at s.places.first.start points) now
       → Put now points (zeros points) after → after ≡ (layer_read parcel).chroma.0
   unfolding layer_read
   first_read points e long a b =
@@ -71,11 +71,11 @@ module _ (parcel : List ℕ) (s : Contents) (o : Opened parcel s) where
       (both_put points (numbers_long parcel s.places.first.start points (rw e o.first.inside)) (length-tabulate points (λ k. pos 0)) (rw e long) a b)
 
   abbrev marks_of : (across rows : ℕ) → Marks
-  marks_of across rows = record { width = s.width; height = s.height; across = across; rows = rows }
+  marks_of across rows = record { width = s.head.width; height = s.head.height; across = across; rows = rows }
 
   -- what filling the rows of cells asks
-  pub marks_fit : (across rows wide tall : ℕ) → across ≡ s.width / s.ratio → rows ≡ s.height / s.ratio → wide ≡ cells s.width → tall ≡ cells s.height
-      → (output : List ℤ) → length output ≡ 2 * points_of s
+  pub marks_fit : (across rows wide tall : ℕ) → across ≡ s.head.width / s.head.ratio → rows ≡ s.head.height / s.head.ratio → wide ≡ cells s.head.width → tall ≡ cells s.head.height
+      → (output : List ℤ) → length output ≡ 2 * points_of s.head
       → MarksFit output (across * rows) (take (s.places.cells.start + 2 * (wide * tall) - s.places.cells.start) (drop s.places.cells.start parcel)) (marks_of across rows)
   marks_fit across rows wide tall ea er ew et output long =
       let start = s.places.cells.start in
@@ -90,8 +90,8 @@ module _ (parcel : List ℕ) (s : Contents) (o : Opened parcel s) where
         room = omega (arith, mul_comm rows across, points, long);
       }
 
-  pub second_read : (across rows wide tall : ℕ) → across ≡ s.width / s.ratio → rows ≡ s.height / s.ratio → wide ≡ cells s.width → tall ≡ cells s.height
-      → {before now after : List ℤ} → length before ≡ 2 * points_of s → Put before 0 (at s.places.second.start (across * rows)) now
+  pub second_read : (across rows wide tall : ℕ) → across ≡ s.head.width / s.head.ratio → rows ≡ s.head.height / s.head.ratio → wide ≡ cells s.head.width → tall ≡ cells s.head.height
+      → {before now after : List ℤ} → length before ≡ 2 * points_of s.head → Put before 0 (at s.places.second.start (across * rows)) now
       → Put now (across * rows) (mark_rows (take (s.places.cells.start + 2 * (wide * tall) - s.places.cells.start) (drop s.places.cells.start parcel)) (marks_of across rows) rows) after
       → after ≡ (layer_read parcel).chroma.1
   unfolding layer_read
@@ -99,7 +99,7 @@ module _ (parcel : List ℕ) (s : Contents) (o : Opened parcel s) where
       let start = s.places.cells.start in
       let size : start + 2 * (wide * tall) - start ≡ 2 * (wide * tall) = omega arith in
       let turned = mul_comm rows across in
-      let points : across * rows ≡ points_of s = rw (ea, er) in
+      let points : across * rows ≡ points_of s.head = rw (ea, er) in
       let behind = rw (size, turned) at b in
       rw (o.second.payload, o.marks.payload, o.is_width, o.is_height, o.is_ratio, ← ea, ← er, ← ew, ← et)
       (both_put (across * rows) (numbers_long parcel s.places.second.start (across * rows) (rw points o.second.inside))

@@ -1,33 +1,25 @@
--- What is left of `parcel_read::read`: a refusal, the slices that are lent where there is none, and the layer.
-use Rattle.parcel_read.proofs.Opened.{read_no, read_yes, is_open, exact}
+-- What is left of `parcel_read::read`: the two refusals, and the layer.
+use Rattle.std.proofs.Common.{sym, ◌∙◌}
+use Rattle.std.proofs.lemmas.Result.{err_from_is_err_and}
+use Rattle.parcel_read.proofs.Opened.{read_no, read_short, read_yes}
 use Rattle.parcel_read.proofs.read.Goals as goal
 
-pub returns-then-number-ne0 : goal.returns-then-number-ne0
-returns-then-number-ne0 c =
-    read_no _ _ c.survey-contents.ensures _ _ _ _ c.refusal-number.ensures c.if-number-ne0.true _ c.told.ensures
+pub returns-in_err-parcel : goal.returns-in_err-parcel
+returns-in_err-parcel c =
+    let p = err_from_is_err_and c.from_residual.result c.from_residual.ensures.1 in
+    rw (p.1, p.2) (read_no _ _ _ _ _ c.in_err-parcel.ensures.number)
 
-pub fill_luma-requires : goal.fill_luma-requires
-fill_luma-requires c =
-    let a = c.args in (
-      is_open a.parcel.now _ c.survey-contents.ensures a.luma.now a.chroma1.now a.chroma2.now _ c.refusal-number.ensures c.if-number-ne0.false,
-      (exact a.parcel.now _ c.survey-contents.ensures a.luma.now a.chroma1.now a.chroma2.now _ c.refusal-number.ensures c.if-number-ne0.false).0,
-    )
-
-pub fill_first-requires : goal.fill_first-requires
-fill_first-requires c =
-    let a = c.args in (
-      is_open a.parcel.now _ c.survey-contents.ensures a.luma.now a.chroma1.now a.chroma2.now _ c.refusal-number.ensures c.if-number-ne0.false,
-      (exact a.parcel.now _ c.survey-contents.ensures a.luma.now a.chroma1.now a.chroma2.now _ c.refusal-number.ensures c.if-number-ne0.false).1,
-    )
-
-pub fill_second-requires : goal.fill_second-requires
-fill_second-requires c =
-    let a = c.args in (
-      is_open a.parcel.now _ c.survey-contents.ensures a.luma.now a.chroma1.now a.chroma2.now _ c.refusal-number.ensures c.if-number-ne0.false,
-      (exact a.parcel.now _ c.survey-contents.ensures a.luma.now a.chroma1.now a.chroma2.now _ c.refusal-number.ensures c.if-number-ne0.false).2,
-    )
+pub returns-in_err-ensure : goal.returns-in_err-ensure
+returns-in_err-ensure c =
+    let p = err_from_is_err_and c.from_residual-in_err-ensure.result c.from_residual-in_err-ensure.ensures.1 in
+    let t = c.in_ok-parcel in
+    let e = c.in_err-ensure.ensures in
+    rw (p.1, p.2, e.1)
+    (read_short c.args.parcel.now _ _ _ t.parcel.contents (rw t.ensures.same at t.parcel.opened) t.ensures.number (sym c.exact_planes-fits.ensures ∙ e.0))
 
 pub returns : goal.returns
 returns c =
-    read_yes _ _ c.survey-contents.ensures _ _ _ _ c.refusal-number.ensures c.if-number-ne0.false _ c.told-2.ensures
-    c.fill_luma.ensures c.fill_first.ensures c.fill_second.ensures
+    let t = c.in_ok-parcel in
+    let same = t.ensures.same in
+    read_yes c.args.parcel.now _ _ _ t.parcel.contents (rw same at t.parcel.opened) t.ensures.number (sym c.exact_planes-fits.ensures ∙ c.in_ok-ensure.ensures)
+    (rw same at c.fill_luma.ensures) (rw same at c.fill_first.ensures) (rw same at c.fill_second.ensures)
