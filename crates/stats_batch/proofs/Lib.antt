@@ -1,3 +1,2 @@
--- Laws of arrays that are filled entry by entry, and of the four that hold steps.
+-- Laws of arrays that are filled with steps, pixel by pixel.
 pub mod Laws
-pub mod Four

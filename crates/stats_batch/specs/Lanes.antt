@@ -1,5 +1,5 @@
 -- What the entries of an array are, one for each of n pixels.
-use Rattle.std.specs.Prelude.{◌≡◌, List, ℕ, ◌+◌, ◌≤◌, ◌<◌, length, get_or, Float}
+use Rattle.std.specs.Prelude.{◌≡◌, List, ℕ, ◌+◌, ◌<◌, get_or, Float}
 use Rattle.std.specs.Float.{nan}
 use Rattle.rules.specs.declared.Taps.{Taps}
 use Rattle.rules.specs.Forms.{Motion}
@@ -20,12 +20,6 @@ Fits raw l = PlaneFits raw l.pitch l.width l.height
 abbrev pub Lanes : {A : Type 0} → (n : ℕ) → (none : A) → (f : ℕ → A) → List A → Type 0
 Lanes n none f l = (k : ℕ) → k < n → get_or l k none ≡ f k
 
--- an array whose first k entries are filled so, of n
-pub record Filling {A : Type 0} (n : ℕ) (none : A) (f : ℕ → A) (k : ℕ) (l : List A) : Type 0 where
-  pub lanes : Lanes k none f l
-  pub within : k ≤ n
-  pub long : length l ≡ 32
-
 -- the first n points lie on a side of this size
 abbrev pub Inside : (n size : ℕ) → List Float → Type 0
 Inside n size p = (k : ℕ) → k < n → cut (get_or p k nan) < size
@@ -33,14 +27,6 @@ Inside n size p = (k : ℕ) → k < n → cut (get_or p k nan) < size
 -- the whole parts of the first n points
 abbrev pub Wholes : (n : ℕ) → List Float → List ℕ → Type 0
 Wholes n p wholes = Lanes n 0 (λ k. cut (get_or p k nan)) wholes
-
--- the steps of pixel columns from x on fill four arrays, k of n entries so far, and what is carried holds its columns
-pub record Stepping (m : Motion) (ratio : ℕ) (down : Taps) (x n k : ℕ) (r : Shifts) : Type 0 where
-  pub fx : Filling n nan (λ j. (steps_by m ratio down (x + j)).fx) k r.fx
-  pub fy : Filling n nan (λ j. (steps_by m ratio down (x + j)).fy) k r.fy
-  pub bx : Filling n nan (λ j. (steps_by m ratio down (x + j)).bx) k r.bx
-  pub by : Filling n nan (λ j. (steps_by m ratio down (x + j)).by) k r.by
-  pub holds : Holds m ratio down r.held
 
 -- the steps of n pixel columns from x on, and columns to carry on
 pub record Shifted (m : Motion) (ratio : ℕ) (down : Taps) (x n : ℕ) (r : Shifts) : Type 0 where

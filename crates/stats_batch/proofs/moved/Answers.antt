@@ -1,22 +1,37 @@
 -- `stats_batch::moved` meets its contract. Assumes nothing.
-use native.Mathlib.Nat.{one-mul, zero-mul, add-zero}
+use Rattle.std.proofs.Common.{of_calls, arith, ◌<◌}
+use lib.Ieee.{nan}
+use lib.ListN.{get_or}
+use Rattle.rules.specs.Float.{cut}
 use Rattle.stats_terms.specs.Terms.{moved_of}
-use Rattle.stats_batch.proofs.Laws.{small}
 use Rattle.stats_batch.proofs.moved.Goals as goal
 
-pub wholes-requires : goal.wholes-requires
-wholes-requires c = (small _ _ c.held-u.result c.requires.0.wide.1 c.held-u.ensures.1, c.requires.3)
+pub sampled-requires-clause-across : goal.sampled-requires-clause-across
+sampled-requires-clause-across c k h =
+    let e = c.lanes-u.ensures k nan h in
+    search of_calls
 
-pub wholes-requires-2 : goal.wholes-requires-2
-wholes-requires-2 c = (small _ _ c.held-v.result c.requires.0.tall.1 c.held-v.ensures.1, c.requires.3)
+pub sampled-requires-clause-down : goal.sampled-requires-clause-down
+sampled-requires-clause-down c k h =
+    let e = c.lanes-v.ensures k nan h in
+    search of_calls
 
-pub sampled-requires : goal.sampled-requires
-sampled-requires c =
-    (c.requires.0, c.held-u.ensures.1, c.held-v.ensures.1, c.wholes.ensures, c.wholes-2.ensures, c.requires.3)
+pub wholes-requires-clause-near : goal.wholes-requires-clause-near
+wholes-requires-clause-near c k h =
+    let e = c.lanes-u.ensures k nan h in
+    let s : cut (get_or c.lanes-u.result k nan) < c.args.layout.width = search of_calls in
+    omega arith
+
+pub wholes-requires-2-clause-near : goal.wholes-requires-2-clause-near
+wholes-requires-2-clause-near c k h =
+    let e = c.lanes-v.ensures k nan h in
+    let s : cut (get_or c.lanes-v.result k nan) < c.args.layout.height = search of_calls in
+    omega arith
 
 pub returns : goal.returns
 unfolding moved_of
 returns c k h =
-    let across = c.held-u.ensures.0 k h in
-    let down = c.held-v.ensures.0 k h in
-    rw (c.sampled.ensures k h, across, down, one-mul k, zero-mul k, add-zero c.args.y)
+    let u = c.lanes-u.ensures k nan h in
+    let v = c.lanes-v.ensures k nan h in
+    let s = c.sampled.ensures k h in
+    search of_calls

@@ -1,13 +1,16 @@
 -- The invariant of `stats_batch::steps`: the steps of the pixels below k are filled in, and what is carried holds its
--- columns.
-use Prim.Native.Nat.{◌-◌}
+-- columns. Assumes nothing.
+use Rattle.std.proofs.Common.{◌≡◌, length}
 use Rattle.motion.specs.Moves.{motion_of}
-use Rattle.stats_batch.specs.Lanes.{Stepping}
+use Rattle.stats_batch.specs.Lanes.{Shifted}
 use Rattle.stats_batch.proofs.steps.Given as goal
 
 abbrev pub invariant-loop-k : goal.invariant-loop-k
 invariant-loop-k l =
-    Stepping (motion_of l.fields l.grid) l.ratio l.down l.x l.n l.k (record { fx = l.fx; fy = l.fy; bx = l.bx; by = l.by; held = l.held })
-
-abbrev pub decreases-loop-k : goal.decreases-loop-k
-decreases-loop-k l = l.n - l.k
+    record {
+      so_far : Shifted (motion_of l.motion.fields l.lattice.grid) l.lattice.ratio l.down l.x l.k (record { fx = l.fx; fy = l.fy; bx = l.bx; by = l.by; held = l.held });
+      fx : length l.fx ≡ 32;
+      fy : length l.fy ≡ 32;
+      bx : length l.bx ≡ 32;
+      by : length l.by ≡ 32;
+    }
