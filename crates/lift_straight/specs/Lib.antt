@@ -1,1 +1,1 @@
-pub mod Stroke
+pub mod Laid
