@@ -1,22 +1,18 @@
 -- A gain against 0.2, by the whole total of its stored gains: a quotient by a power of two is exact. Assumes nothing.
 use mathlib.Core.Path.{◌≡◌, refl, sym, ap, ◌∙◌}
-use mathlib.Core.Bool.{Bool, true, false, cond, false≢true}
+use mathlib.Core.Bool.{Bool, false}
 use Prim.Native.Nat.{ℕ, zero, suc, ◌*◌, ◌^◌, ◌≤◌, ◌<◌}
 use native.Mathlib.Nat.{le_trans, mul_assoc, mul-le-mul_right, lt_of_le_of_lt}
 use native.Mathlib.Omega.{arith}
-use lib.Dec.{leb, eqb, le→leb, leb→le, lit<, lit≤}
-use lib.IntN.{ℤ, pos, negsuc, neg_ℤ, nat_abs}
-use lib.Signed.{le_z}
+use lib.Dec.{leb, le→leb, leb→le, lit<, lit≤}
+use lib.IntN.{ℤ, pos, nat_abs}
 use lib.Pow.{pow_pos}
 use lib.Ieee.{Float, nan, inf, fin, binary32, up, down, round, mul, le, of_bits, of_int}
 use lib.Ieee.Exact.{HasValue, round_exact}
-use mir.Syntax.{w32}
-use mir.Val.{SFits}
 use Rattle.rules.specs.Literals.{0·2, 4096·0}
 use Rattle.rules.specs.Float.{◌⊗◌, ◌⊘◌, ◌≼◌, abs, float, signed}
 use Rattle.laws.proofs.Points.{div_at}
 use Rattle.laws.proofs.Whole.{minus?, int_value, le_by_values, values_by_le, same_test}
-use Rattle.plane.proofs.Laws.{leb_same}
 use Rattle.layer_numbers.specs.Stored.{gain_by}
 use Rattle.layer_model.specs.Least.{least_of}
 
@@ -79,31 +75,3 @@ module _ (z : ℤ) (small : nat_abs z ≤ 524288) where
   fifth_test (suc (suc (suc zero))) low high power = absurd (power refl)
   fifth_test (suc (suc (suc (suc zero)))) low high power = four
   fifth_test (suc (suc (suc (suc (suc n))))) low high power = absurd (omega arith)
-
--- ---- by two tests of the number
-
--- "at least 820 or at most -820"
-pub at_least : (n : ℕ) (z : ℤ) → le_z (pos n) z ≡ true → leb n (nat_abs z) ≡ true
-at_least n (pos a) t = t
-at_least n (negsuc a) t = absurd (false≢true t)
-
-pub at_most : (n : ℕ) (z : ℤ) → 1 ≤ n → le_z (pos n) z ≡ false → le_z z (neg_ℤ (pos n)) ≡ leb n (nat_abs z)
-at_most zero z h t = absurd (omega arith)
-at_most (suc n) (pos a) h t = sym t
-at_most (suc n) (negsuc a) h t = leb_same n a (suc n) (suc a) (λ l. omega arith) (λ l. omega arith)
-
-pub some_least : (n : ℕ) → 1 ≤ least_of n
-some_least n = go (eqb n 1) (eqb n 2)
-  where
-    go : (a b : Bool) → 1 ≤ cond a 820 (cond b 3277 13108)
-    go true b = lit≤ tt
-    go false true = lit≤ tt
-    go false false = lit≤ tt
-
-pub minus_fits : (n : ℕ) → SFits w32 (neg_ℤ (pos (least_of n)))
-minus_fits n = go (eqb n 1) (eqb n 2)
-  where
-    go : (a b : Bool) → SFits w32 (neg_ℤ (pos (cond a 820 (cond b 3277 13108))))
-    go true b = record { sfits = lit< tt }
-    go false true = record { sfits = lit< tt }
-    go false false = record { sfits = lit< tt }

@@ -1,7 +1,7 @@
 // The model that stored numbers stand for, as floats: a gain in 4096ths, an offset in 64ths.
 #![tactic(auto)]
 
-ghost use Rattle.std.specs.Prelude.{◌≡◌, ◌≤◌, pos, nat_abs};
+ghost use Rattle.std.specs.Prelude.{◌≡◌, ◌≤◌, nat_abs};
 ghost use Rattle.rules.specs.Literals.{0·2, 64·0};
 ghost use Rattle.rules.specs.Float.{◌⊘◌, ◌≼◌, abs, signed};
 ghost use Rattle.rules.specs.Reading.{luma_texel, chroma_texel};
@@ -12,16 +12,15 @@ use rules::{Gain, Model, Offset};
 
 // A gain, of the total of span² stored gains. The common divisors are constants, powers of two.
 fn gain_of(total: i32, span: usize) -> f32
-    requires { (nat_abs total ≤ 524288) × (span ≤ 4) }
+    requires small { nat_abs total ≤ 524288 }
+    requires few { span ≤ 4 }
     ensures { result ≡ gain_by span total }
 {
-    if span == 1 {
-        return total as f32 / 4096.0;
+    match span {
+        1 => total as f32 / 4096.0,
+        2 => total as f32 / 16384.0,
+        _ => total as f32 / (float::of_size(span * span) * 4096.0),
     }
-    if span == 2 {
-        return total as f32 / 16384.0;
-    }
-    total as f32 / (float::of_size(span * span) * 4096.0)
 }
 
 // An offset, of a stored one.
@@ -32,23 +31,25 @@ fn offset_of(offset: Offset) -> f32
 }
 
 // The least total of span² stored gains whose gain is 0.2 or more.
-fn least(span: usize) -> i32
-    ensures { result ≡ pos (least_of span) }
+fn least(span: usize) -> u32
+    ensures { result ≡ least_of span }
 {
-    if span == 1 {
-        820
-    } else {
-        if span == 2 { 3277 } else { 13108 }
+    match span {
+        1 => 820,
+        2 => 3277,
+        _ => 13108,
     }
 }
 
 // A gain of 0.2 or more, by size.
 pub fn strong(total: i32, span: usize) -> bool
-    requires { (nat_abs total ≤ 524288) × (1 ≤ span) × (span ≤ 4) × (span ≡ 3 → ⊥) }
+    requires small { nat_abs total ≤ 524288 }
+    requires some { 1 ≤ span }
+    requires few { span ≤ 4 }
+    requires power { span ≡ 3 → ⊥ }
     ensures { result ≡ (0·2 ≼ abs (gain_by span total)) }
 {
-    let least = least(span);
-    least <= total || total <= -least
+    least(span) <= total.unsigned_abs()
 }
 
 // The model of a luma pixel's stored numbers.
@@ -63,7 +64,8 @@ pub fn luma_texel(gain: Gain, offset: Offset) -> Model
 
 // And of a chroma pixel's: the total of its gains, and its offset.
 pub fn chroma_texel(total: i32, span: usize, offset: Offset) -> Model
-    requires { (nat_abs total ≤ 524288) × (span ≤ 4) }
+    requires small { nat_abs total ≤ 524288 }
+    requires few { span ≤ 4 }
     ensures { result ≡ chroma_texel span (signed total) offset }
 {
     Model {

@@ -2,7 +2,7 @@
 use mathlib.Core.Path.{◌≡◌, refl, sym, ◌∙◌}
 use mathlib.Core.List.{List}
 use Prim.Native.Nat.{ℕ, ◌+◌, ◌*◌, ◌^◌, ◌≤◌, ◌<◌}
-use native.Mathlib.Nat.{le_trans, add-zero, add_assoc}
+use native.Mathlib.Nat.{le_trans}
 use native.Mathlib.Numerals.{add-one}
 use native.Mathlib.Omega.{arith}
 use lib.Dec.{lit≤}
@@ -52,11 +52,6 @@ pub row_more : {luma : List ℤ} {row pitch x span n : ℕ} {total t r : ℤ}
 unfolding turns row_total
 row_more done more = record { is = more.is ∙ rw (done.is, add-one); small = omega arith }
 
-pub row_of_two : {luma : List ℤ} {row pitch x : ℕ} {total one r : ℤ} → Added luma (row * pitch + x * 2) total one → Added luma (row * pitch + x * 2 + 1) one r
-    → RowSummed luma row pitch x 2 2 total r
-row_of_two {total = total} {one = one} first second =
-    row_more {n = 1} {t = one} (row_more {n = 0} {t = total} (row_none _ _ _ _ _ _) (rw add-zero first)) (rw (← add_assoc) second)
-
 -- ---- a block
 
 pub block_none : (luma : List ℤ) (pitch span x y : ℕ) → BlockSummed luma pitch span x y 0 (pos 0)
@@ -67,8 +62,3 @@ pub block_more : {luma : List ℤ} {pitch span x y rows : ℕ} {t r : ℤ} → s
     → RowSummed luma (y * span + rows) pitch x span span t r → BlockSummed luma pitch span x y (rows + 1) r
 unfolding turns block_total
 block_more few done row = record { is = row.is ∙ rw (done.is, add-one); small = omega arith }
-
-pub block_of_two : {luma : List ℤ} {pitch x y : ℕ} {t r : ℤ} → RowSummed luma (y * 2) pitch x 2 2 (pos 0) t → RowSummed luma (y * 2 + 1) pitch x 2 2 t r
-    → BlockSummed luma pitch 2 x y 2 r
-block_of_two upper lower =
-    block_more {rows = 1} (omega arith) (block_more {rows = 0} (omega arith) (block_none _ _ _ _ _) (rw add-zero upper)) lower

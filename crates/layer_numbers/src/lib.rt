@@ -4,7 +4,7 @@
 ghost use Rattle.std.specs.Prelude.{◌≡◌, [], ◌<◌, ◌≤◌, pos, nat_abs, length, get_or};
 ghost use Rattle.rules.specs.Reading.{luma_gain, luma_offset, stored_chroma};
 ghost use Rattle.layer_lent.specs.Lent.{holding, lay, LumaLong, Planned, Sound, Inside};
-ghost use Rattle.layer_numbers.specs.Stored.{RowFits, Added, RowSummed, BlockSummed, Summed};
+ghost use Rattle.layer_numbers.specs.Stored.{RowFits, Added, RowSummed, Summed};
 
 use layer_lent::{Lent, Plan};
 use rules::{Gain, Offset};
@@ -26,29 +26,24 @@ fn added<L: Lent>(layer: L, k: usize, total: i32) -> i32
     total + gain(layer, k).0 as i32
 }
 
-// A row of a pixel's gains, added to a total.
-fn gain_row<L: Lent>(layer: L, row: usize, pitch: usize, x: usize, span: usize, total: i32) -> i32
-    requires fits { RowFits (L.held layer 0) row pitch x span }
+// A row of a pixel's gains, added to a total. The span is a constant: the loops are unrolled.
+fn gain_row<L: Lent, const SPAN: usize>(
+    layer: L,
+    row: usize,
+    pitch: usize,
+    x: usize,
+    total: i32,
+) -> i32
+    requires fits { RowFits (L.held layer 0) row pitch x SPAN }
     requires small { nat_abs total ≤ 393216 }
-    ensures { RowSummed (L.held layer 0) row pitch x span span total result }
+    ensures { RowSummed (L.held layer 0) row pitch x SPAN SPAN total result }
 {
     let mut sum = total;
-    for dx in 0..span {
-        let at = plane::place(row, pitch, plane::place(x, span, dx));
+    for dx in 0..SPAN {
+        let at = plane::place(row, pitch, plane::place(x, SPAN, dx));
         sum = added(layer, at, sum);
     }
     sum
-}
-
-// Two gains of a row, added to a total: the common span, in a straight line.
-fn gain_two<L: Lent>(layer: L, row: usize, pitch: usize, x: usize, total: i32) -> i32
-    requires fits { RowFits (L.held layer 0) row pitch x 2 }
-    requires small { nat_abs total ≤ 393216 }
-    ensures { RowSummed (L.held layer 0) row pitch x 2 2 total result }
-{
-    let k = plane::place(row, pitch, x * 2);
-    let one = added(layer, k, total);
-    added(layer, k + 1, one)
 }
 
 // The gain of a pixel that has one.
@@ -73,48 +68,37 @@ fn one<L: Lent>(plan: Plan, layer: L, x: usize, y: usize) -> i32
     luma_gain(plan, layer, x, y).0 as i32
 }
 
-// And of one that has two by two.
-fn four<L: Lent>(plan: Plan, layer: L, x: usize, y: usize) -> i32
+// And of one that has more, row by row.
+fn block<L: Lent, const SPAN: usize>(plan: Plan, layer: L, x: usize, y: usize) -> i32
     requires planned { Planned plan }
     requires inside { Inside plan x y }
     requires long { LumaLong plan (L.held layer 0) }
-    requires two { plan.span ≡ 2 }
+    requires same { plan.span ≡ SPAN }
+    requires more { SPAN ≡ 1 → ⊥ }
     ensures { Summed plan (L.held layer 0) x y result }
-{
-    let upper = gain_two(layer, y * 2, plan.shape.luma_pitch, x, 0);
-    gain_two(layer, y * 2 + 1, plan.shape.luma_pitch, x, upper)
-}
-
-// And of either, by a span that is given beside the plan, so that it can be a constant.
-pub fn one_or_four<L: Lent>(plan: Plan, span: usize, layer: L, x: usize, y: usize) -> i32
-    requires planned { Planned plan }
-    requires inside { Inside plan x y }
-    requires long { LumaLong plan (L.held layer 0) }
-    requires same { plan.span ≡ span }
-    requires few { span ≤ 2 }
-    ensures { Summed plan (L.held layer 0) x y result }
-{
-    if span == 1 {
-        one(plan, layer, x, y)
-    } else {
-        four(plan, layer, x, y)
-    }
-}
-
-// The gains of a pixel, row by row.
-fn gain_block<L: Lent>(plan: Plan, layer: L, x: usize, y: usize) -> i32
-    requires planned { Planned plan }
-    requires inside { Inside plan x y }
-    requires long { LumaLong plan (L.held layer 0) }
-    ensures { BlockSummed (L.held layer 0) plan.shape.luma_pitch plan.span x y plan.span result }
 {
     let mut sum = 0;
-    let span = plan.span;
-    for dy in 0..span {
-        let row = plane::place(y, span, dy);
-        sum = gain_row(layer, row, plan.shape.luma_pitch, x, span, sum);
+    for dy in 0..SPAN {
+        let row = plane::place(y, SPAN, dy);
+        sum = gain_row::<L, SPAN>(layer, row, plan.shape.luma_pitch, x, sum);
     }
     sum
+}
+
+// And of either, by a span that is a constant.
+pub fn one_or_four<L: Lent, const SPAN: usize>(plan: Plan, layer: L, x: usize, y: usize) -> i32
+    requires planned { Planned plan }
+    requires inside { Inside plan x y }
+    requires long { LumaLong plan (L.held layer 0) }
+    requires same { plan.span ≡ SPAN }
+    requires few { SPAN ≤ 2 }
+    ensures { Summed plan (L.held layer 0) x y result }
+{
+    if SPAN == 1 {
+        one(plan, layer, x, y)
+    } else {
+        block::<L, 2>(plan, layer, x, y)
+    }
 }
 
 // The total of a pixel's gains. Through `one_or_four` peel's rings of chroma would take twice as long.
@@ -124,13 +108,11 @@ pub fn gains<L: Lent>(plan: Plan, layer: L, x: usize, y: usize) -> i32
     requires long { LumaLong plan (L.held layer 0) }
     ensures { Summed plan (L.held layer 0) x y result }
 {
-    if plan.span == 1 {
-        return one(plan, layer, x, y);
+    match plan.span {
+        1 => one(plan, layer, x, y),
+        2 => block::<L, 2>(plan, layer, x, y),
+        _ => block::<L, 4>(plan, layer, x, y),
     }
-    if plan.span == 2 {
-        return four(plan, layer, x, y);
-    }
-    gain_block(plan, layer, x, y)
 }
 
 // The offset of a luma pixel.

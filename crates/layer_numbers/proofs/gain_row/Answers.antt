@@ -27,5 +27,5 @@ loop-dx-preserved g c =
 
 pub returns : goal.returns
 returns g c =
-    let e : c.loop-dx.dx ≡ c.args.span = omega arith in
+    let e : c.loop-dx.dx ≡ g.row.SPAN = omega arith in
     rw (back w32 c.args.total c.ranges.total.sfits, e) at c.loop-dx.invariant
