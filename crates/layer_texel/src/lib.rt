@@ -12,14 +12,13 @@ use rules::Model;
 
 // The model of a luma pixel.
 fn luma_model<L: Lent>(plan: Plan, layer: L, x: usize, y: usize) -> Model
-    requires { Sound plan (L.held layer) × Inside plan x y × (plan.shape.plane ≡ 0) }
+    requires sound { Sound plan (L.held layer) }
+    requires inside { Inside plan x y }
+    requires luma { plan.shape.plane ≡ 0 }
     ensures { result ≡ texel_of (lay plan.shape (L.held layer)) plan.shape.plane x y }
 {
     let gain = layer_numbers::luma_gain(plan, layer, x, y);
-    layer_model::luma_texel(
-        gain,
-        layer_numbers::luma_offset(plan, layer, x, y),
-    )
+    layer_model::luma_texel(gain, layer_numbers::luma_offset(plan, layer, x, y))
 }
 
 // The model of a pixel with this total of gains. `luma` and `span` are the plan's.
@@ -32,7 +31,10 @@ pub fn texel_of<L: Lent>(
     y: usize,
     total: i32,
 ) -> Model
-    requires { Sound plan (L.held layer) × Inside plan x y × Fixed plan luma span × Summed plan (L.held layer 0) x y total }
+    requires sound { Sound plan (L.held layer) }
+    requires inside { Inside plan x y }
+    requires fixed { Fixed plan luma span }
+    requires summed { Summed plan (L.held layer 0) x y total }
     ensures { result ≡ texel_of (lay plan.shape (L.held layer)) plan.shape.plane x y }
 {
     if luma {
@@ -42,35 +44,29 @@ pub fn texel_of<L: Lent>(
     layer_model::chroma_texel(total, span, offset)
 }
 
-// The model of a pixel that has one gain or four: a straight line where `luma` and `span` are constants.
-pub fn straight<L: Lent>(
+// The model of a pixel that has one gain or four: a straight line, compiled for each plane and span.
+pub fn straight<L: Lent, const LUMA: bool, const SPAN: usize>(
     plan: Plan,
-    luma: bool,
-    span: usize,
     layer: L,
     x: usize,
     y: usize,
 ) -> Model
-    requires { Sound plan (L.held layer) × Inside plan x y × Fixed plan luma span × (span ≤ 2) }
+    requires sound { Sound plan (L.held layer) }
+    requires inside { Inside plan x y }
+    requires fixed { Fixed plan LUMA SPAN }
+    requires few { SPAN ≤ 2 }
     ensures { result ≡ texel_of (lay plan.shape (L.held layer)) plan.shape.plane x y }
 {
-    let total = layer_numbers::one_or_four(plan, span, layer, x, y);
-    texel_of(plan, luma, span, layer, x, y, total)
+    let total = layer_numbers::one_or_four::<L, SPAN>(plan, layer, x, y);
+    texel_of(plan, LUMA, SPAN, layer, x, y, total)
 }
 
 // The model of a pixel.
 pub fn texel<L: Lent>(plan: Plan, layer: L, x: usize, y: usize) -> Model
-    requires { Sound plan (L.held layer) × Inside plan x y }
+    requires sound { Sound plan (L.held layer) }
+    requires inside { Inside plan x y }
     ensures { result ≡ texel_of (lay plan.shape (L.held layer)) plan.shape.plane x y }
 {
     let total = layer_numbers::gains(plan, layer, x, y);
-    texel_of(
-        plan,
-        plan.shape.plane == 0,
-        plan.span,
-        layer,
-        x,
-        y,
-        total,
-    )
+    texel_of(plan, plan.shape.plane == 0, plan.span, layer, x, y, total)
 }

@@ -5,9 +5,9 @@ use Rattle.layer_texel.proofs.luma_model.Goals as goal
 
 pub luma_gain-gain-requires : goal.luma_gain-gain-requires
 luma_gain-gain-requires g c =
-    let h = c.requires.0.planned in
-    (h, c.requires.1, c.requires.0.luma_long, one_of c.args.plan h c.requires.2)
+    let h = c.requires.sound.planned in
+    record { planned = h; inside = c.requires.inside; long = c.requires.sound.luma_long; one = one_of c.args.plan h c.requires.luma }
 
 pub returns : goal.returns
 returns g c =
-    rw (c.luma_texel.ensures, c.luma_offset.ensures, c.luma_gain-gain.ensures) (luma_is _ _ _ _ c.requires.2)
+    rw (c.luma_texel.ensures, c.luma_offset.ensures, c.luma_gain-gain.ensures) (luma_is _ _ _ _ c.requires.luma)

@@ -8,13 +8,13 @@ use Rattle.layer_texel.proofs.texel_of.Goals as goal
 
 pub luma_model-requires : goal.luma_model-requires
 luma_model-requires g c =
-    (c.requires.0, c.requires.1, eqb-true _ _ (c.requires.2.luma_is ∙ c.if-luma.true))
+    record { sound = c.requires.sound; inside = c.requires.inside; luma = eqb-true _ _ (c.requires.fixed.luma_is ∙ c.if-luma.true) }
 
 pub chroma_offset-offset-requires : goal.chroma_offset-offset-requires
 chroma_offset-offset-requires g c =
-    (c.requires.0, c.requires.1, eqb-false _ _ (c.requires.2.luma_is ∙ c.if-luma.false))
+    record { sound = c.requires.sound; inside = c.requires.inside; chroma = eqb-false _ _ (c.requires.fixed.luma_is ∙ c.if-luma.false) }
 
 pub returns : goal.returns
 returns g c =
     rw (back w32 c.args.total c.ranges.total.sfits, c.chroma_offset-offset.ensures) at c.chroma_texel.ensures
-    ∙ chroma_is c.args.plan _ _ _ c.args.x c.args.y _ c.args.total c.requires.3 c.requires.2.span_is (eqb-false _ _ (c.requires.2.luma_is ∙ c.if-luma.false))
+    ∙ chroma_is c.args.plan _ _ _ c.args.x c.args.y _ c.args.total c.requires.summed c.requires.fixed.span_is (eqb-false _ _ (c.requires.fixed.luma_is ∙ c.if-luma.false))
