@@ -1,30 +1,49 @@
 -- Records and their rows of numbers, put piece after piece. Assumes nothing.
 use mathlib.Core.Path.{◌≡◌, refl, sym, ap, ◌∙◌}
-use mathlib.Core.List.{List, ◌++◌}
-use Prim.Native.Nat.{ℕ, ◌+◌, ◌*◌, ◌/◌, ◌%◌, ◌≤◌, ◌<◌}
+use mathlib.Core.List.{List, [], ◌∷◌, ◌++◌}
+use Prim.Native.Nat.{ℕ, zero, suc, ◌+◌, ◌*◌, ◌/◌, ◌%◌, ◌≤◌, ◌<◌}
 use native.Mathlib.Nat.{add-mul, one-mul, suc-mul, mul_comm, mul-le-mul_left, mul-le-mul_right}
+use native.Mathlib.Numerals.{add-one}
 use native.Mathlib.Omega.{arith}
 use lib.Arith.{digits_div, digits_mod}
 use lib.IntN.{ℤ}
-use lib.ListN.{length, set, length-set, length-append}
+use lib.ListN.{length, set, length-append}
 use Rattle.rules.specs.Forms.{tabulate}
 use Rattle.rules.specs.Parcel.{in_bytes, bits, written, record_bytes, head_bytes}
-use Rattle.laws.proofs.Bytes.{length-in_bytes, written-append, written_last, in_four}
+use Rattle.laws.proofs.Bytes.{length-in_bytes, written-append, written_last}
 use Rattle.laws.proofs.Lists.{table_same, tabulate-add, tabulate_last}
 use Rattle.laws.proofs.Parcels.{length_head, length_table, length_rows}
 use Rattle.table.specs.Put.{Put}
-use Rattle.table.proofs.Put.{put_none, put_one, put_join, put_as}
+use Rattle.table.proofs.Put.{put_none, put_more, put_join, put_as}
 use Rattle.parcel_put.specs.declared.Run.{Run}
-use Rattle.parcel_put.specs.Runs.{row_of, entry_of, first_of, run_of, RunFits}
+use Rattle.parcel_put.specs.Runs.{behind, row_of, entry_of, first_of, run_of, RunFits}
 
--- ---- numbers of two bytes
+-- ---- the lowest bytes of a number
 
-pub two_put : {before after : List ℕ} {at : ℕ} (n : ℕ) → at + 2 ≤ length before → after ≡ set (set before at (n % 256)) (at + 1) (n / 256 % 256)
-    → Put before at (in_bytes 2 n) after
+-- a byte more
+pub behind_more : (k n : ℕ) → behind k n / 256 ≡ behind (k + 1) n
+behind_more k n = rw (add-one k) (go k n)
+  where
+    go : (k n : ℕ) → behind k n / 256 ≡ behind (suc k) n
+    go zero n = refl
+    go (suc k) n = go k (n / 256)
+
+in_bytes_more : (k n : ℕ) → in_bytes k n ++ behind k n % 256 ∷ [] ≡ in_bytes (k + 1) n
 unfolding in_bytes
-two_put {before = before} {at = at} n room e =
-    put_join (put_one {before = before} {at = at} (n % 256) (omega arith) refl) refl
-    (put_one (n / 256 % 256) (rw (length-set before at (n % 256)) (omega arith)) e)
+in_bytes_more k n = rw (add-one k) (go k n)
+  where
+    go : (k n : ℕ) → in_bytes k n ++ behind k n % 256 ∷ [] ≡ in_bytes (suc k) n
+    go zero n = refl
+    go (suc k) n = ap (λ (l : List ℕ). n % 256 ∷ l) (go k (n / 256))
+
+pub bytes_none : (l : List ℕ) (at n : ℕ) → Put l at (in_bytes 0 n) l
+unfolding in_bytes
+bytes_none l at n = put_none l at
+
+pub bytes_more : {before now after : List ℕ} {at : ℕ} (k n : ℕ) → Put before at (in_bytes k n) now → at + k < length now → after ≡ set now (at + k) (behind k n % 256)
+    → Put before at (in_bytes (k + 1) n) after
+bytes_more {at = at} k n done inside e =
+    put_as (put_more (behind k n % 256) done (ap (λ (j : ℕ). at + j) (sym (length-in_bytes k n))) inside e) (in_bytes_more k n)
 
 -- such a number behind a piece
 then_two : {before now after piece : List ℕ} {at next : ℕ} (size n : ℕ) → Put before at piece now → length piece ≡ size → next ≡ at + size
@@ -33,10 +52,9 @@ then_two size n first long e second = put_join first (rw long e) second
 
 -- ---- records
 
-pub start_put : {before first second after : List ℕ} {at : ℕ} (size kind : ℕ) → Put before at (in_bytes 2 size) first → Put first (at + 2) (in_bytes 2 (size / 65536)) second
-    → Put second (at + 4) (in_bytes 2 kind) after → Put before at (in_bytes 4 size ++ in_bytes 2 kind) after
-start_put size kind a b c =
-    then_two 4 kind (put_as (then_two 2 (size / 65536) a (length-in_bytes 2 size) refl b) (sym (in_four size))) (length-in_bytes 4 size) refl c
+pub start_put : {before now after : List ℕ} {at : ℕ} (size kind : ℕ) → Put before at (in_bytes 4 size) now → Put now (at + 4) (in_bytes 2 kind) after
+    → Put before at (in_bytes 4 size ++ in_bytes 2 kind) after
+start_put size kind a b = then_two 4 kind a (length-in_bytes 4 size) refl b
 
 record_put : {before now after payload : List ℕ} {at : ℕ} (size kind : ℕ) → Put before at (in_bytes 4 size ++ in_bytes 2 kind) now → size ≡ length payload
     → Put now (at + 6) payload after → Put before at (record_bytes (record { kind = kind; payload = payload })) after

@@ -2,28 +2,20 @@
 #![tactic(auto)]
 
 ghost use Rattle.std.specs.Prelude.{◌≡◌, ◌++◌, ◌+◌, ◌*◌, ◌≤◌, length};
-ghost use Rattle.rules.specs.Parcel.{in_bytes, bits as bits_of, written, record_bytes, head_bytes};
+ghost use Rattle.rules.specs.Parcel.{in_bytes, written, record_bytes, head_bytes};
 ghost use Rattle.table.specs.Put.{Put};
 ghost use Rattle.parcel_put.specs.Runs.{row_of, run_of, RunFits};
 
-// The 16 bits of a number.
-fn bits(z: i16) -> usize
-    ensures { result ≡ bits_of z }
+// The lowest N bytes of a number, the lowest first.
+fn put<const N: usize>(output: &mut [u8], at: usize, n: usize)
+    requires { at + N ≤ length output.old }
+    ensures { Put output.old at (in_bytes N n) output.new }
 {
-    if 0 <= z {
-        z as usize
-    } else {
-        65535 - ((-1 - z) as usize)
+    let mut rest = n;
+    for k in 0..N {
+        output[at + k] = (rest % 256) as u8;
+        rest /= 256;
     }
-}
-
-// Two bytes, the lowest first.
-fn put_two(output: &mut [u8], at: usize, n: usize)
-    requires { at + 2 ≤ length output.old }
-    ensures { Put output.old at (in_bytes 2 n) output.new }
-{
-    output[at] = (n % 256) as u8;
-    output[at + 1] = (n / 256 % 256) as u8;
 }
 
 // What a record begins with: its payload's length in four bytes, and its kind in two.
@@ -31,20 +23,19 @@ fn put_start(output: &mut [u8], at: usize, size: usize, kind: usize)
     requires { at + 6 ≤ length output.old }
     ensures { Put output.old at (in_bytes 4 size ++ in_bytes 2 kind) output.new }
 {
-    put_two(output, at, size);
-    put_two(output, at + 2, size / 65536);
-    put_two(output, at + 4, kind);
+    put::<4>(output, at, size);
+    put::<2>(output, at + 4, kind);
 }
 
 // A row of numbers, from one of them on.
 fn put_row(output: &mut [u8], at: usize, numbers: &[i16], from: usize, count: usize)
-    requires { (at + 2 * count ≤ length output.old) × (from + count ≤ length numbers.now) }
+    requires room { at + 2 * count ≤ length output.old }
+    requires inside { from + count ≤ length numbers.now }
     ensures { Put output.old at (written (row_of numbers.now from count)) output.new }
 {
-    let mut x = 0;
-    while x < count {
-        put_two(output, at + 2 * x, bits(numbers[from + x]));
-        x += 1;
+    for x in 0..count {
+        let bits = numbers[from + x].cast_unsigned();
+        put::<2>(output, at + 2 * x, usize::from(bits));
     }
 }
 
@@ -62,12 +53,13 @@ fn put_rows(output: &mut [u8], at: usize, numbers: &[i16], run: Run)
     requires { RunFits output.old at numbers.now run }
     ensures { Put output.old at (written (run_of numbers.now run)) output.new }
 {
-    let from = run.from;
-    let pitch = run.pitch;
-    let width = run.width;
-    let rows = run.rows;
-    let mut y = 0;
-    while y < rows {
+    let Run {
+        from,
+        pitch,
+        width,
+        rows,
+    } = run;
+    for y in 0..rows {
         put_row(
             output,
             at + 2 * (y * width),
@@ -75,15 +67,14 @@ fn put_rows(output: &mut [u8], at: usize, numbers: &[i16], run: Run)
             from + y * pitch,
             width,
         );
-        y += 1;
     }
 }
 
 // A record of a run of numbers. It answers the place behind it.
 pub fn put_record(output: &mut [u8], at: usize, kind: usize, numbers: &[i16], run: Run) -> usize
     requires { RunFits output.old (at + 6) numbers.now run }
-    ensures { (result ≡ at + 6 + 2 * (run.width * run.rows))
-        × Put output.old at (record_bytes (record { kind = kind; payload = written (run_of numbers.now run) })) output.new }
+    ensures behind { result ≡ at + 6 + 2 * (run.width * run.rows) }
+    ensures done { Put output.old at (record_bytes (record { kind = kind; payload = written (run_of numbers.now run) })) output.new }
 {
     let size = 2 * (run.width * run.rows);
     put_start(output, at, size, kind);
@@ -97,7 +88,7 @@ pub fn put_head(output: &mut [u8], width: usize, height: usize, ratio: usize)
     ensures { Put output.old 0 (record_bytes (record { kind = 1; payload = head_bytes (width, height) ratio })) output.new }
 {
     put_start(output, 0, 6, 1);
-    put_two(output, 6, width);
-    put_two(output, 8, height);
-    put_two(output, 10, ratio);
+    put::<2>(output, 6, width);
+    put::<2>(output, 8, height);
+    put::<2>(output, 10, ratio);
 }

@@ -3,4 +3,4 @@ use Rattle.parcel_put.proofs.Records.{head_put}
 use Rattle.parcel_put.proofs.put_head.Goals as goal
 
 pub returns : goal.returns
-returns c = head_put (c.args.width, c.args.height) c.args.ratio c.put_start.ensures c.put_two.ensures c.put_two-2.ensures c.put_two-3.ensures
+returns c = head_put (c.args.width, c.args.height) c.args.ratio c.put_start.ensures c.put.ensures c.put-2.ensures c.put-3.ensures
