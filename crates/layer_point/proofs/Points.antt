@@ -2,8 +2,8 @@
 use mathlib.Core.Path.{◌≡◌, ap, ◌∙◌}
 use mathlib.Core.Bool.{Bool, true, false, ◌&&◌}
 use mathlib.Core.List.{List}
-use Prim.Native.Nat.{ℕ, ◌+◌, ◌*◌, ◌/◌, ◌≤◌, ◌<◌}
-use native.Mathlib.Nat.{add-mul, div-one}
+use Prim.Native.Nat.{ℕ, ◌+◌, ◌*◌, ◌/◌, ◌^◌, ◌<◌}
+use native.Mathlib.Nat.{add-mul, div-one, mul-le-mul}
 use native.Mathlib.Omega.{arith}
 use borrow.Author.Tests.{eq-eqb}
 use lib.IntN.{ℤ}
@@ -16,10 +16,9 @@ use Rattle.rules.specs.Literals.{0·0}
 use Rattle.rules.specs.Reading.{texel, mix_models, mixed_model, model_at, sample}
 use Rattle.sample.specs.Points.{around, sampled_row, sampled_at}
 use Rattle.layer_lent.specs.declared.Plan.{Plan}
-use Rattle.layer_lent.specs.Lent.{lay, ratio_of, Planned, Held}
-use Rattle.plane.specs.Slices.{slice}
+use Rattle.layer_lent.specs.Lent.{lay, ratio_of, Planned, Sound, Held}
 use Rattle.laws.proofs.Lists.{place_in}
-use Rattle.layer_point.specs.Points.{Lies, LumaFits, luma_at, row_of, point_of}
+use Rattle.layer_point.specs.Points.{LumaFits, luma_at, row_of, point_of}
 
 -- ---- whatever the models of the pixels are
 
@@ -66,26 +65,28 @@ luma_in l pitch shift width height x y f left above =
     let g = f.long in
     omega (arith, place_in {w = pitch} {x = x} above (omega arith))
 
-module _ (p : Plan) (held : Held) (lies : Lies p held) (zero : p.shape.plane ≡ 0) where
-  numbers_are : part p.shape held 0 ≡ slice numbers 0
-  numbers_are = rw lies.plain
+pub luma_low : (l : List ℤ) (pitch shift width height x y : ℕ) → LumaFits l pitch shift width height → x < width → y < height → y * pitch + x + shift < 2 ^ 32
+luma_low l pitch shift width height x y f left above =
+    let a = f.apart in
+    let s = f.shifted in
+    omega (arith, place_in {w = pitch} {x = x} above (omega arith), mul-le-mul f.tall a.1)
 
+module _ (p : Plan) (held : Held) (sound : Sound p held) (zero : p.shape.plane ≡ 0) where
   wide_is : p.across ≡ p.shape.width
-  wide_is = across_is p lies.sound.planned ∙ simp (eq-eqb _ _ zero) (div-one p.shape.width)
+  wide_is = across_is p sound.planned ∙ simp (eq-eqb _ _ zero) (div-one p.shape.width)
 
   tall_is : p.down ≡ p.shape.height
-  tall_is = down_is p lies.sound.planned ∙ simp (eq-eqb _ _ zero) (div-one p.shape.height)
+  tall_is = down_is p sound.planned ∙ simp (eq-eqb _ _ zero) (div-one p.shape.height)
 
-  pub luma_fits : LumaFits (slice numbers 0) p.shape.luma_pitch (p.shape.height * p.shape.luma_pitch + 0) p.across p.down
+  pub luma_fits : LumaFits (held 0) p.shape.luma_pitch (p.shape.height * p.shape.luma_pitch + 0) p.across p.down
   luma_fits =
-      let f = lies.sound.planned.formed in
-      let long : 2 * (p.shape.luma_pitch * p.shape.height) ≤ length (slice numbers 0) = rw numbers_are at lies.sound.luma_long in
-      rw (wide_is, tall_is) (record { tall = f.tall.1; apart = f.luma_pitch; shifted = omega arith; long = long })
+      let f = sound.planned.formed in
+      rw (wide_is, tall_is) (record { tall = f.tall.1; apart = f.luma_pitch; shifted = omega arith; long = sound.luma_long })
 
-  pub luma_is : (x y : ℕ) → luma_at (slice numbers 0) p.shape.luma_pitch (p.shape.height * p.shape.luma_pitch + 0) x y ≡ texel (lay p.shape held) p.shape.plane x y
+  pub luma_is : (x y : ℕ) → luma_at (held 0) p.shape.luma_pitch (p.shape.height * p.shape.luma_pitch + 0) x y ≡ texel (lay p.shape held) p.shape.plane x y
   unfolding texel
   luma_is x y =
       let h = p.shape.height in
       let k = p.shape.luma_pitch in
       let e : y * k + x + (h * k + 0) ≡ (h + y) * k + x = omega (arith, add-mul h y k) in
-      rw (e, eq-eqb _ _ zero, numbers_are)
+      rw (e, eq-eqb _ _ zero)

@@ -1,6 +1,6 @@
 -- A layer between its pixels, over a byte plane: what its readers ask, and the model by the columns and rows around a
 -- point.
-use Rattle.std.specs.Prelude.{◌≡◌, false, cond, ◌&&◌, List, ℕ, ◌+◌, ◌*◌, ◌≤◌, ◌<◌, ℤ, pos, length, get_or}
+use Rattle.std.specs.Prelude.{◌≡◌, cond, ◌&&◌, List, ℕ, ◌+◌, ◌*◌, ◌≤◌, ◌<◌, ℤ, pos, length, get_or}
 use Rattle.std.specs.Float.Ieee as Ieee
 use Rattle.rules.specs.declared.Model.{Model}
 use Rattle.rules.specs.declared.Taps.{Taps}
@@ -10,14 +10,9 @@ use Rattle.sample.specs.Points.{PlaneFits}
 use Rattle.layer_lent.specs.declared.Plan.{Plan}
 use Rattle.layer_lent.specs.Lent.{Sound, Held}
 
--- a layer of numbers: its bytes are not looked at
-pub record Lies (p : Plan) (held : Held) : Type 0 where
-  pub sound : Sound p held
-  pub plain : p.shape.packed ≡ false
-
--- and a byte plane over the plane that is worked on
+-- a layer that can be read, and a byte plane over the plane that is worked on
 pub record LiesOver (p : Plan) (held : Held) (raw : List ℕ) (pitch : ℕ) : Type 0 where
-  pub lies : Lies p held
+  pub sound : Sound p held
   pub fits : PlaneFits raw pitch p.across p.down
 
 -- two columns, and two rows, of a plane

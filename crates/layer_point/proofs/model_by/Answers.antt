@@ -4,9 +4,9 @@ use Rattle.layer_point.proofs.model_by.Goals as goal
 
 pub luma_by-requires : goal.luma_by-requires
 luma_by-requires g c =
-    (rw c.place-shift.ensures (luma_fits _ (g.L.Lent.held c.args.layer) c.requires.0 c.if-plan-eq0.true), c.requires.1)
+    record { fits = rw c.place-shift.ensures (luma_fits _ (g.L.Lent.held c.args.layer) c.requires.sound c.if-plan-eq0.true); around = c.requires.around }
 
 pub returns-then-plan-eq0 : goal.returns-then-plan-eq0
 returns-then-plan-eq0 g c =
     let zero = c.if-plan-eq0.true in
-    rw (c.luma_by.ensures, c.place-shift.ensures) (same_point _ _ _ _ (luma_is _ (g.L.Lent.held c.args.layer) c.requires.0 zero))
+    rw (c.luma_by.ensures, c.place-shift.ensures) (same_point _ _ _ _ (luma_is _ (g.L.Lent.held c.args.layer) c.requires.sound zero))
