@@ -23,7 +23,8 @@ pub trait Cells: Copy {
 
     ghost down: { Self → ℕ };
 
-    // Whether a pixel that stays is passed over. Where it isn't, a row is a loop without a branch.
+    // Whether a pixel that stays is passed over. Where it isn't, as where its cells are few, a row is a loop without a
+    // branch.
     const SKIPS: bool;
 
     fn across(self) -> usize
@@ -63,7 +64,7 @@ impl<const ACROSS: usize, const DOWN: usize> Cells for Fixed<ACROSS, DOWN> {
 
     ghost down = { λ _. DOWN };
 
-    const SKIPS: bool = false;
+    const SKIPS: bool = ACROSS > 3;
 
     fn across(self) -> usize {
         ACROSS

@@ -1,5 +1,5 @@
-// The pass of hold or apply with the smallest steps as constants: for each of these a loop is compiled apart, with no
-// division left.
+// The pass of hold or apply with the smallest and the most even steps as constants: for each of these a loop is compiled
+// apart, with no division and no loop over cells left.
 #![tactic(auto)]
 
 ghost use Rattle.still_pass.specs.Pass.{RowsPainted, PlaneIn};
@@ -10,7 +10,7 @@ ghost use Rattle.std.specs.Prelude.{◌≤◌};
 use still_cells::{Fixed, Numbers, Steps};
 use still_pixel::Work;
 
-// The steps that are constants: 1, 2 or 3 cells across and 1 down, 1 or 2 across and 2 down.
+// The steps that are constants: 1, 2 or 3 cells across and 1 down, 1 or 2 across and 2 down, 4 or 8 each way.
 pub fn pass<W: Work>(output: &mut [u8], work: W, mask: &[u8], numbers: Numbers, steps: Steps)
     requires room { PlaneIn output.old numbers.output_pitch (numbers.width, numbers.height) }
     requires cells { PlaneCells mask.now numbers.mask_width steps.across steps.down (numbers.width, numbers.height) }
@@ -24,6 +24,8 @@ pub fn pass<W: Work>(output: &mut [u8], work: W, mask: &[u8], numbers: Numbers, 
         (3, 1) => still_rows::rows(output, work, mask, numbers, Fixed::<3, 1>),
         (1, 2) => still_rows::rows(output, work, mask, numbers, Fixed::<1, 2>),
         (2, 2) => still_rows::rows(output, work, mask, numbers, Fixed::<2, 2>),
+        (4, 4) => still_rows::rows(output, work, mask, numbers, Fixed::<4, 4>),
+        (8, 8) => still_rows::rows(output, work, mask, numbers, Fixed::<8, 8>),
         _ => still_rows::rows(output, work, mask, numbers, steps),
     }
 }
