@@ -2,18 +2,17 @@
 use mathlib.Core.Path.{◌≡◌, refl}
 use mathlib.Core.Bool.{Bool, true, false, cond}
 use mathlib.Core.List.{List}
-use Prim.Native.Nat.{ℕ, ◌+◌, ◌-◌, ◌*◌, ◌%◌, ◌≤◌, ◌<◌, min}
-use native.Mathlib.Nat.{add-mul-mod_self_left, mul-le-mul_right}
+use Prim.Native.Nat.{ℕ, ◌+◌, ◌-◌, ◌*◌, ◌%◌, ◌<◌, min}
+use native.Mathlib.Nat.{add-mul-mod_self_left}
 use native.Mathlib.Omega.{arith}
 use borrow.Author.Tests.{eqb-true, eqb-false}
 use lib.Dec.{eqb}
 use lib.ListN.{length, set}
 use lib.Seq.{get_or-set_same, get_or-set_other}
 use Rattle.rules.specs.Reading.{after}
-use Rattle.still_pass.specs.Pass.{PlaneIn}
 use Rattle.still_pass.proofs.Tables.{row_none, row_more, rows_none, rows_more, one_pixel}
 use Rattle.still_corner.specs.declared.Column.{Column}
-use Rattle.still_corner.specs.Corner.{full_by, still_by, both_bits, column_of, mark_of, is_odd, Holds, RowMarked, RowsMarked, ColumnIn}
+use Rattle.still_corner.specs.Corner.{full_by, still_by, both_bits, column_of, mark_of, is_odd, Holds, RowMarked, RowsMarked}
 
 -- ---- bits
 
@@ -67,20 +66,3 @@ module _ (same : (x y : ℕ) → Bool) (size : ℕ × ℕ) where
   pub column_is : (list : List ℕ) (x above y below : ℕ) → Holds same size list → x < size.0 → above < size.1 → y < size.1 → below < size.1
       → column_of (is_odd list size.0) x above y below ≡ column_of same x above y below
   column_is list x above y below h p a b c = rw (h.odd x above p a, h.odd x y p b, h.odd x below p c)
-
--- and lies within the bytes
-pub column_in : (bytes list : List ℕ) (size : ℕ × ℕ) (x above y below : ℕ) → PlaneIn bytes size.0 size → length list ≡ length bytes
-    → x < size.0 → above < size.1 → y < size.1 → below < size.1 → ColumnIn list size.0 x above y below
-column_in bytes list size x above y below p e left a b c =
-    let near = p.near in
-    let room = p.inside in
-    let up : above ≤ size.1 - 1 = omega arith in
-    let mid : y ≤ size.1 - 1 = omega arith in
-    let low : below ≤ size.1 - 1 = omega arith in
-    record {
-      near = (omega arith, omega arith, omega arith, omega arith);
-      narrow = p.apart;
-      upper = omega (arith, mul-le-mul_right size.0 up);
-      middle = omega (arith, mul-le-mul_right size.0 mid);
-      lower = omega (arith, mul-le-mul_right size.0 low);
-    }

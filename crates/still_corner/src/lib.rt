@@ -40,21 +40,11 @@ fn column_at(still: &[u8], width: usize, x: usize, above: usize, y: usize, below
 fn full(a: bool, b: bool, c: bool, d: bool) -> bool
     ensures { result ≡ (a && b && c && d) }
 {
-    plane::both(plane::all(a, b, c), d)
-}
-
-// The lowest bit, and the answer in the bit above it.
-fn two_bits(here: bool, still: bool) -> u8
-    ensures { result ≡ cond here 1 0 + 2 * cond still 1 0 }
-{
-    if still {
-        if here { 3 } else { 2 }
-    } else {
-        plane::bit(here)
-    }
+    a & b & c & d
 }
 
 // The two bits of a pixel, by its column and those beside it.
+#[tactic(auto, unfolding(crate::specs::Corner::mark_of))]
 fn mark(left: Column, mid: Column, right: Column) -> u8
     ensures { result ≡ mark_of left mid right }
 {
@@ -62,35 +52,28 @@ fn mark(left: Column, mid: Column, right: Column) -> u8
     let b = full(mid.above, right.above, mid.here, right.here);
     let c = full(left.here, mid.here, left.below, mid.below);
     let d = full(mid.here, right.here, mid.below, right.below);
-    let still = plane::either(plane::either(plane::either(a, b), c), d);
-    two_bits(mid.here, still)
-}
-
-// The column or row before k, the first repeated.
-fn previous(k: usize) -> usize
-    ensures { result ≡ k - 1 }
-{
-    if k == 0 { 0 } else { k - 1 }
+    let still = a | b | c | d;
+    u8::from(mid.here) + 2 * u8::from(still)
 }
 
 // One row. A column goes from right to middle to left, so that each is read once.
 fn mark_row(still: &mut [u8], width: usize, height: usize, y: usize)
-    requires { PlaneIn still.old width (width, height) × (1 ≤ width) × (y < height) }
+    requires room { PlaneIn still.old width (width, height) }
+    requires some { 1 ≤ width }
+    requires row { y < height }
     ensures { (same : ℕ → ℕ → Bool) → Holds same (width, height) still.old → RowMarked same (width, height) y width still.old still.new }
 {
-    let above = previous(y);
+    let above = y.saturating_sub(1);
     let below = plane::after(y, height);
     let last = width - 1;
     let mut mid = column_at(still, width, 0, above, y, below);
     let mut left = mid;
-    let mut x = 0;
-    while x < last {
+    for x in 0..last {
         let right = column_at(still, width, x + 1, above, y, below);
         let k = plane::place(y, width, x);
         still[k] = mark(left, mid, right);
         left = mid;
         mid = right;
-        x += 1;
     }
     let k = plane::place(y, width, last);
     still[k] = mark(left, mid, mid);
@@ -98,12 +81,11 @@ fn mark_row(still: &mut [u8], width: usize, height: usize, y: usize)
 
 // The rows, one after the other.
 pub fn mark_rows(still: &mut [u8], width: usize, height: usize)
-    requires { PlaneIn still.old width (width, height) × (1 ≤ width) }
+    requires room { PlaneIn still.old width (width, height) }
+    requires some { 1 ≤ width }
     ensures { (same : ℕ → ℕ → Bool) → Holds same (width, height) still.old → RowsMarked same (width, height) height still.old still.new }
 {
-    let mut y = 0;
-    while y < height {
+    for y in 0..height {
         mark_row(still, width, height, y);
-        y += 1;
     }
 }

@@ -2,7 +2,7 @@
 use mathlib.Core.Path.{◌≡◌, refl, ◌∙◌}
 use mathlib.Core.Bool.{Bool, true, false, cond}
 use mathlib.Core.List.{List, [], ◌∷◌}
-use Prim.Native.Nat.{ℕ, ◌+◌, ◌-◌, ◌*◌, ◌/◌, ◌%◌, ◌≤◌}
+use Prim.Native.Nat.{ℕ, ◌+◌, ◌-◌, ◌*◌, ◌/◌, ◌%◌, ◌≤◌, ◌<◌}
 use native.Mathlib.Nat.{suc-mul, mul_comm}
 use native.Mathlib.Omega.{arith}
 use borrow.Author.Tests.{eqb-true}
@@ -16,7 +16,7 @@ use Rattle.still_pass.specs.Pass.{PlaneIn}
 use Rattle.still_pass.specs.Table.{RowsStored}
 use Rattle.laws.proofs.Accepted.{row_right, sizes_in}
 use Rattle.still_pass.proofs.Accepted.{first_in}
-use Rattle.laws.proofs.Lists.{length-tabulate, get_or-tabulate, is_table}
+use Rattle.laws.proofs.Lists.{get_or-tabulate, is_table}
 use Rattle.still_pass.proofs.Tables.{table, table_length, table_at}
 use Rattle.still_same.specs.Same.{same_bit}
 use Rattle.still_corner.specs.Corner.{full_by, still_by, both_bits, Holds, RowsMarked}
@@ -61,16 +61,16 @@ module _ (first second : Plane) (width height : ℕ) (s : Settings) where
   -- the second puts the answers above it, and the third leaves them alone
   pub answers : (before after last : List ℕ) → length before ≡ width * height
       → RowsMarked (same_at first second (width, height) s) (width, height) height before after
-      → last ≡ tabulate (length after) (λ k. get_or after k 0 / 2)
+      → length last ≡ length after → ((k : ℕ) → k < length last → get_or last k 0 ≡ get_or after k 0 / 2)
       → last ≡ tabulate (width * height) (λ k. still first second (width, height) s (k % width) (k / width))
-  answers before after last long marked halved =
+  answers before after last long marked left halved =
       let same = same_at first second (width, height) s in
       let bits = both_bits same (width, height) in
       let whole = table_length width bits height before after marked.stored long in
       let e = table width bits height before after marked.stored long in
       is_table (width * height) (λ k. still first second (width, height) s (k % width) (k / width)) last 0
-      (rw halved (length-tabulate (length after) (λ k. get_or after k 0 / 2) ∙ whole))
-      (λ k h. rw (halved, get_or-tabulate (length after) (λ j. get_or after j 0 / 2) k 0 (rw whole h))
+      (left ∙ whole)
+      (λ k h. rw (halved k (rw (left, whole) h))
       (rw (e, get_or-tabulate (width * height) (λ j. bits (j % width) (j / width)) k 0 h, half_both (same (k % width) (k / width)) (still_by same (width, height) (k % width) (k / width)))
       (answer_is (k % width) (k / width))))
 

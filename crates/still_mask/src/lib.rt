@@ -1,50 +1,45 @@
 // Mask: 1 where the picture is still, 0 elsewhere. The bytes that it fills carry the passes, so it needs no others.
 #![tactic(auto)]
 
-ghost use Rattle.std.specs.Prelude.{◌≡◌, ◌/◌, length, get_or};
-ghost use Rattle.rules.specs.Forms.{tabulate};
+ghost use Rattle.std.specs.Prelude.{◌≡◌, ◌/◌, slice_index, EachIndex};
 ghost use Rattle.rules.specs.Calls.{Settings as Given};
-ghost use Rattle.rules.specs.Refusals.{mask_refusal};
+ghost use Rattle.rules.specs.Refusals.{mask_refusal, numbered};
 ghost use Rattle.rules.specs.Still.{mask_leaves};
 ghost use Rattle.calls.specs.Lent.{plane_of, mask_call};
 ghost use Rattle.still_pass.specs.Pass.{Passed};
 ghost use Rattle.still_same.specs.Same.{settled};
 
-use rules::Answer;
-use still_same::Settings;
+use rules::Refusal;
+use still_same::{Frames, Settings};
 
 // The bit above the lowest, of bytes of two bits.
 fn halve(still: &mut [u8])
-    ensures { still.new ≡ tabulate (length still.old) (λ k. get_or still.old k 0 / 2) }
+    ensures { EachIndex still.new (λ k. slice_index still.new k ≡ slice_index still.old k / 2) }
 {
-    let mut k = 0;
-    while k < still.len() {
-        still[k] = still[k] / 2;
-        k += 1;
+    for b in still.iter_mut() {
+        *b /= 2;
     }
 }
 
-// The number of mask's refusal, or 0, whatever the settings.
-fn mask_refusal(
+// The tests of mask, in the order of the table, whatever the settings.
+#[tactic(auto, unfolding(rules::specs::Refusals::mask_refusal, rules::specs::Refusals::first_fitting, rules::specs::Forms::each))]
+fn tested(
     still: &[u8],
     first: &[u8],
     second: &[u8],
     pitch: usize,
     width: usize,
     height: usize,
-) -> u8
-    ensures { (s : Given) → result ≡ mask_refusal (mask_call (plane_of first.now pitch) (plane_of second.now pitch) width height s still.now) }
+) -> Result<(), Refusal>
+    ensures { (s : Given) → numbered result ≡ mask_refusal (mask_call (plane_of first.now pitch) (plane_of second.now pitch) width height s still.now) }
 {
-    let sizes = plane::sizes(width, height);
-    let pitched = plane::pitched(pitch, width);
-    let pitches = plane::both(pitched, plane::both(pitched, true));
-    let lengths = plane::both(
-        plane::planed(first.len(), pitch, width, height),
-        plane::both(plane::planed(second.len(), pitch, width, height), true),
-    );
+    plane::ensure(plane::sizes(width, height), Refusal::Size)?;
+    plane::ensure(plane::pitched(pitch, width), Refusal::Pitch)?;
+    let lengths = plane::planed(first.len(), pitch, width, height)
+        & plane::planed(second.len(), pitch, width, height);
+    plane::ensure(lengths, Refusal::Length)?;
     let filled = plane::is_product(still.len(), width, height);
-    let rest = plane::unless(4, lengths, plane::unless(4, filled, 0));
-    plane::unless(1, sizes, plane::unless(3, pitches, rest))
+    plane::ensure(filled, Refusal::Length)
 }
 
 // Masks, or refuses: the contract is the equation for both.
@@ -56,19 +51,20 @@ pub fn mask(
     width: usize,
     height: usize,
     settings: Settings,
-) -> Answer
+) -> Result<(), Refusal>
     ensures { let c = mask_call (plane_of first.now pitch) (plane_of second.now pitch) width height (settled settings) still.old in
         Passed (mask_refusal c) (mask_leaves c) still.new result }
 {
-    let number = mask_refusal(still, first, second, pitch, width, height);
-    if number != 0 {
-        return Answer { number, count: 0 };
-    }
-    still_same::same_rows(still, first, second, pitch, width, height, settings);
+    tested(still, first, second, pitch, width, height)?;
+    let frames = Frames {
+        first,
+        second,
+        pitch,
+        width,
+        height,
+    };
+    still_same::same_rows(still, frames, settings);
     still_corner::mark_rows(still, width, height);
     halve(still);
-    Answer {
-        number: 0,
-        count: 0,
-    }
+    Ok(())
 }

@@ -1,8 +1,7 @@
 // Which pixels of two planes are the same: the first pass of mask.
 #![tactic(auto)]
 
-ghost use Rattle.std.specs.Prelude.{◌≡◌, cond, ◌≤◌, ◌<◌};
-ghost use Rattle.rules.specs.Forms.{apart as apart_of};
+ghost use Rattle.std.specs.Prelude.{◌≡◌, cond, ◌+◌, ◌-◌, ◌*◌, ◌≤◌, ◌<◌, length};
 ghost use Rattle.rules.specs.Still.{is_same};
 ghost use Rattle.calls.specs.Lent.{plane_of};
 ghost use Rattle.still_pass.specs.Pass.{RowIn, PlaneIn};
@@ -18,19 +17,29 @@ pub struct Settings {
     pub tolerance: f32,
 }
 
-// How far apart two bytes are.
-fn apart(a: u8, b: u8) -> u8
-    ensures { result ≡ apart_of a b }
-{
-    if a < b { b - a } else { a - b }
+// Two planes of one pitch and one size, whose pixels lie within their bytes.
+#[derive(Clone, Copy)]
+pub struct Frames<'a> {
+    pub first: &'a [u8],
+    pub second: &'a [u8],
+    pub pitch: usize,
+    pub width: usize,
+    pub height: usize,
+    pub ghost some: { 1 ≤ width },
+    pub ghost narrow: { width ≤ 4096 },
+    pub ghost low: { height ≤ 4096 },
+    pub ghost apart: { pitch ≤ 65536 },
+    pub ghost first_inside: { (height - 1) * pitch + width ≤ length first.now },
+    pub ghost second_inside: { (height - 1) * pitch + width ≤ length second.now },
 }
 
 // How far a byte stands out from the mean of four.
+#[tactic(auto, unfolding(crate::specs::Same::detail_by))]
 fn detail(here: u8, right: u8, below: u8, corner: u8) -> f32
     ensures { result ≡ detail_by here right below corner }
 {
-    let sum = here as u16 + right as u16 + below as u16 + corner as u16;
-    (here as f32 - sum as f32 / 4.0) / 255.0
+    let sum = u16::from(here) + u16::from(right) + u16::from(below) + u16::from(corner);
+    (f32::from(here) - f32::from(sum) / 4.0) / 255.0
 }
 
 // A pixel's detail, with the columns x and right, and the rows y and below.
@@ -46,80 +55,56 @@ fn detail_at(bytes: &[u8], pitch: usize, x: usize, right: usize, y: usize, below
 }
 
 // Whether two bytes and their details are the same, as far as the settings ask.
+#[tactic(auto, unfolding(rules::specs::Still::is_same))]
 fn is_same(change: f32, a: f32, b: f32, settings: Settings) -> bool
     ensures { result ≡ is_same change a b (settled settings) }
 {
     let strength = float::max(float::abs(a), float::abs(b));
     let near = float::abs(a - b) <= settings.tolerance * strength;
-    plane::either(
-        change <= settings.limit,
-        plane::both(strength > settings.edge, near),
-    )
+    (change <= settings.limit) | ((strength > settings.edge) & near)
 }
 
-// 1 where a pixel of the two planes is the same.
-fn same_at(
-    first: &[u8],
-    second: &[u8],
-    pitch: usize,
-    settings: Settings,
-    x: usize,
-    right: usize,
-    y: usize,
-    below: usize,
-) -> u8
-    requires { Around first.now pitch x right y below × Around second.now pitch x right y below }
-    ensures { result ≡ cond (same_by (plane_of first.now pitch) (plane_of second.now pitch) (settled settings) x right y below) 1 0 }
+// 1 where a pixel of the two planes is the same, with the columns x and right, and the rows y and below.
+#[tactic(auto, unfolding(crate::specs::Same::same_by))]
+fn same_at(frames: Frames, settings: Settings, x: usize, right: usize, y: usize, below: usize) -> u8
+    requires column { x < frames.width }
+    requires beside { right < frames.width }
+    requires row { y < frames.height }
+    requires under { below < frames.height }
+    ensures { let f = frames.entry in result ≡ cond (same_by (plane_of f.first.now f.pitch) (plane_of f.second.now f.pitch) (settled settings) x right y below) 1 0 }
 {
-    let k = plane::place(y, pitch, x);
-    let change = float::of_byte(apart(first[k], second[k])) / 255.0;
-    let a = detail_at(first, pitch, x, right, y, below);
-    let b = detail_at(second, pitch, x, right, y, below);
-    plane::bit(is_same(change, a, b, settings))
+    let k = plane::place(y, frames.pitch, x);
+    let apart = frames.first[k].abs_diff(frames.second[k]);
+    let change = float::of_byte(apart) / 255.0;
+    let a = detail_at(frames.first, frames.pitch, x, right, y, below);
+    let b = detail_at(frames.second, frames.pitch, x, right, y, below);
+    u8::from(is_same(change, a, b, settings))
 }
 
 // One row. The last column is its own right neighbour.
-fn same_row(
-    still: &mut [u8],
-    first: &[u8],
-    second: &[u8],
-    pitch: usize,
-    width: usize,
-    height: usize,
-    settings: Settings,
-    y: usize,
-)
-    requires { RowIn still.old width width y × PlaneIn first.now pitch (width, height) × PlaneIn second.now pitch (width, height) × (1 ≤ width) × (y < height) }
-    ensures { RowStored width (same_plane first.now second.now pitch width height settings) y width still.old still.new }
+#[tactic(auto, using(still_pass::proofs::Tables::row_none, still_pass::proofs::Tables::row_more, crate::proofs::Rows::same_here))]
+fn same_row(still: &mut [u8], frames: Frames, settings: Settings, y: usize)
+    requires room { RowIn still.old frames.width frames.width y }
+    requires row { y < frames.height }
+    ensures { let f = frames.entry in RowStored f.width (same_plane f.first.now f.second.now f.pitch f.width f.height settings) y f.width still.old still.new }
 {
-    let below = plane::after(y, height);
-    let last = width - 1;
-    let mut x = 0;
-    while x < last {
-        let k = plane::place(y, width, x);
-        still[k] = same_at(first, second, pitch, settings, x, x + 1, y, below);
-        x += 1;
+    let below = plane::after(y, frames.height);
+    let last = frames.width - 1;
+    for x in 0..last {
+        let k = plane::place(y, frames.width, x);
+        still[k] = same_at(frames, settings, x, x + 1, y, below);
     }
-    let k = plane::place(y, width, last);
-    still[k] = same_at(first, second, pitch, settings, last, last, y, below);
+    let k = plane::place(y, frames.width, last);
+    still[k] = same_at(frames, settings, last, last, y, below);
 }
 
 // The rows, one after the other.
-pub fn same_rows(
-    still: &mut [u8],
-    first: &[u8],
-    second: &[u8],
-    pitch: usize,
-    width: usize,
-    height: usize,
-    settings: Settings,
-)
-    requires { PlaneIn still.old width (width, height) × PlaneIn first.now pitch (width, height) × PlaneIn second.now pitch (width, height) × (1 ≤ width) }
-    ensures { RowsStored width (same_plane first.now second.now pitch width height settings) height still.old still.new }
+#[tactic(auto, using(still_pass::proofs::Tables::rows_none))]
+pub fn same_rows(still: &mut [u8], frames: Frames, settings: Settings)
+    requires { PlaneIn still.old frames.width (frames.width, frames.height) }
+    ensures { let f = frames.entry in RowsStored f.width (same_plane f.first.now f.second.now f.pitch f.width f.height settings) f.height still.old still.new }
 {
-    let mut y = 0;
-    while y < height {
-        same_row(still, first, second, pitch, width, height, settings, y);
-        y += 1;
+    for y in 0..frames.height {
+        same_row(still, frames, settings, y);
     }
 }

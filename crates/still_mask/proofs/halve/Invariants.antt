@@ -1,13 +1,9 @@
--- The invariant of `still_mask::halve`: the first k bytes are halved.
-use mathlib.Core.Path.{◌≡◌}
-use Prim.Native.Nat.{◌-◌, ◌/◌, ◌≤◌}
-use lib.ListN.{length, get_or}
-use Rattle.laws.specs.Filled.{filled}
+-- The invariant of `still_mask::halve`: the first bytes are halved, the others as they were.
+use Rattle.std.proofs.Common.{◌≡◌, ℕ, ◌/◌, ◌≤◌, ◌<◌, get_or}
 use Rattle.still_mask.proofs.halve.Given as goal
 
-abbrev pub invariant-loop-k : goal.invariant-loop-k
-invariant-loop-k l =
-    (l.still ≡ filled l.k (λ j. get_or l.initial.still j 0 / 2) l.initial.still) × (l.k ≤ length l.initial.still)
-
-abbrev pub decreases-loop-k : goal.decreases-loop-k
-decreases-loop-k l = length l.initial.still - l.k
+abbrev pub invariant-loop-b : goal.invariant-loop-b
+invariant-loop-b l = record {
+  halved : (k : ℕ) → k < l.b-index → get_or l.still k 0 ≡ get_or l.initial.still k 0 / 2;
+  others : (k : ℕ) → l.b-index ≤ k → get_or l.still k 0 ≡ get_or l.initial.still k 0;
+}
