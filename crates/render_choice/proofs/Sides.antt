@@ -1,6 +1,6 @@
 -- What spares work at most pixels: gaps of at most 16, and sides that are alike. Assumes nothing.
 use mathlib.Core.Path.{◌≡◌, refl}
-use mathlib.Core.Bool.{Bool, true, false, cond, not, ◌&&◌, false≢true}
+use mathlib.Core.Bool.{Bool, true, false, cond, not, ◌&&◌}
 use lib.Dec.{T}
 use lib.Ieee.{Float, lt, le, is_nan, of_bits}
 use Rattle.rules.specs.declared.Moved.{Moved}
@@ -29,19 +29,13 @@ near_within gap reach t =
     (not_lt_of_le gap (margin reach) (le_trans_float gap 16·0 (margin reach) (T_of _ t) (max_right (reach ⊕ 1·0) 16·0 sixteen)))
 
 -- where the layer is on at both sides or at none, nothing is exchanged
-pub alike_is : (mine other : Moved) (gap : Float) → cond mine.on other.on (not other.on) ≡ true → exchanged mine other gap ≡ mine.scene
+pub alike_is : (mine other : Moved) (gap : Float) → mine.on ≡ other.on → exchanged mine other gap ≡ mine.scene
 unfolding exchanged
 alike_is mine other gap = go mine.on other.on
   where
-    go : (a b : Bool) → cond a b (not b) ≡ true
+    go : (a b : Bool) → a ≡ b
         → cond (a && not b && is_lifted mine.scene && is_lifted other.scene && lt (abs (mine.raw ⊖ value other.scene)) gap) (Lifted mine.raw) mine.scene
         ≡ mine.scene
     go true true t = refl
-    go true false t = absurd (false≢true t)
+    go true false t = cc
     go false b t = refl
-
-pub alike_back : (a b : Bool) → cond a b (not b) ≡ true → cond b a (not a) ≡ true
-alike_back true true t = refl
-alike_back true false t = t
-alike_back false true t = t
-alike_back false false t = refl

@@ -1,14 +1,14 @@
 // What render decides at a pixel: whether it is written, and what is taken from the two frames.
 #![tactic(auto)]
 
-ghost use Rattle.std.specs.Prelude.{◌≡◌, cond, not, ◌≤◌, ◌^◌};
-ghost use Rattle.rules.specs.Scene.{is_lifted};
+ghost use Rattle.std.specs.Prelude.{◌≡◌, ◌≤◌, ◌^◌};
 ghost use Rattle.rules.specs.Render.{timed as timed_of, reach as reach_of, is_on, exchanged as exchanged_of, chosen as chosen_of, between as between_of};
 ghost use Rattle.render_choice.specs.Kept.{is_within, is_kept};
 
 use rules::{Model, Moved, Scene, Steps};
 
 // The steps as far as the time takes them.
+#[tactic(auto, unfolding(rules::specs::Render::timed))]
 pub fn timed(time: f32, steps: Steps) -> Steps
     ensures { result ≡ timed_of time steps }
 {
@@ -22,6 +22,7 @@ pub fn timed(time: f32, steps: Steps) -> Steps
 }
 
 // The largest of a pixel's own steps, in luma pixels.
+#[tactic(auto, unfolding(rules::specs::Render::reach))]
 fn reach(ratio: usize, steps: Steps) -> f32
     requires { ratio ≤ 2 ^ 24 }
     ensures { result ≡ reach_of ratio steps }
@@ -42,6 +43,7 @@ pub fn within(gap: f32, reach: f32) -> bool
 }
 
 // A gap that a pixel's own steps make up for. No margin is below 16, and most gaps are not above it.
+#[tactic(auto, using(crate::proofs::Sides::near_within))]
 pub fn reached(gap: f32, ratio: usize, steps: Steps) -> bool
     requires { ratio ≤ 2 ^ 24 }
     ensures { result ≡ is_within gap (reach_of ratio steps) }
@@ -66,72 +68,47 @@ pub fn kept(model: Model, layered: bool, first: f32, second: f32) -> bool
     float::abs(model.gain) < 0.2 || layered && float::abs(first - second) <= 2.5
 }
 
-// A lifted scene value.
-fn is_lifted(scene: Scene) -> bool
-    ensures { result ≡ is_lifted scene }
-{
-    match scene {
-        Scene::Lifted(_) => true,
-        Scene::Raw(_) => false,
-    }
-}
-
 // One side's scene, or its raw sample, where the layer is on at this side alone and that is nearer to
 // the other side's scene.
+#[tactic(auto, unfolding(rules::specs::Render::exchanged))]
 fn exchanged(mine: Moved, other: Moved, gap: f32) -> Scene
     ensures { result ≡ exchanged_of mine other gap }
 {
-    let scene = mine.scene;
-    let across = other.scene;
-    let alone = plane::all(mine.on, !other.on, is_lifted(scene));
-    let near = float::abs(mine.raw - scene_lift::value(across)) < gap;
-    if plane::all(alone, is_lifted(across), near) {
+    let near = float::abs(mine.raw - scene_lift::value(other.scene)) < gap;
+    let lifted = matches!(mine.scene, Scene::Lifted(_));
+    let across = matches!(other.scene, Scene::Lifted(_));
+    if mine.on & !other.on & lifted & across & near {
         Scene::Lifted(mine.raw)
     } else {
-        scene
+        mine.scene
     }
 }
 
 // `algo` 1 prefers the second, 2 the first, others the median; a lifted side wins over a raw one.
+#[tactic(auto, unfolding(rules::specs::Render::chosen))]
 fn chosen(first: Scene, second: Scene, base: f32, algo: i32) -> f32
     ensures { result ≡ chosen_of first second base algo }
 {
-    match first {
-        Scene::Lifted(early) => match second {
-            Scene::Lifted(late) => {
-                if algo == 1 {
-                    late
-                } else {
-                    if algo == 2 {
-                        early
-                    } else {
-                        float::median(early, late, base)
-                    }
-                }
-            }
-            Scene::Raw(_) => early,
+    match (first, second) {
+        (Scene::Lifted(early), Scene::Lifted(late)) => match algo {
+            1 => late,
+            2 => early,
+            _ => float::median(early, late, base),
         },
-        Scene::Raw(_) => match second {
-            Scene::Lifted(late) => late,
-            Scene::Raw(_) => base,
-        },
+        (Scene::Lifted(early), Scene::Raw(_)) => early,
+        (Scene::Raw(_), Scene::Lifted(late)) => late,
+        (Scene::Raw(_), Scene::Raw(_)) => base,
     }
 }
 
-// Both or none.
-fn alike(one: bool, other: bool) -> bool
-    ensures { result ≡ cond one other (not other) }
-{
-    if one { other } else { !other }
-}
-
 // The two sides, exchanged and chosen from. Where the layer is on at both or at none, nothing is exchanged.
+#[tactic(auto, unfolding(rules::specs::Render::between), using(crate::proofs::Sides::alike_is))]
 pub fn between(first: Moved, second: Moved, base: f32, algo: i32) -> f32
     ensures { result ≡ between_of first second base algo }
 {
     let early = first.scene;
     let late = second.scene;
-    if alike(first.on, second.on) {
+    if first.on == second.on {
         return chosen(early, late, base, algo);
     }
     let gap = float::abs(scene_lift::value(early) - scene_lift::value(late));
