@@ -1,5 +1,5 @@
 -- The sums of a pixel with its terms added, as the code adds them.
-use Rattle.std.specs.Prelude.{◌≡◌, ◌⊎◌, cond, List, ℕ, ◌+◌, eqb, get_or, set, Float}
+use Rattle.std.specs.Prelude.{cond, List, ℕ, ◌+◌, eqb, get_or, set, Float}
 use Rattle.std.specs.Float.{nan}
 use Rattle.rules.specs.Forms.{turns}
 use Rattle.rules.specs.Literals.{0·0}
@@ -13,14 +13,6 @@ start_of pairs old = cond (eqb pairs 0) 0·0 old
 abbrev pub one_added : (pairs : ℕ) → (term : Float) → (k : ℕ) → List Float → List Float
 one_added pairs term k sums = set sums k (start_of pairs (get_or sums k nan) ⊕ term)
 
--- two sums, one after the other
-abbrev pub two_added : (pairs : ℕ) → (a b : Float) → (k : ℕ) → List Float → List Float
-two_added pairs a b k sums = one_added pairs b (k + 1) (one_added pairs a k sums)
-
 -- the first `many` terms, from place k on
 unfoldable pub terms_added : (pairs many : ℕ) → (terms : List Float) → (k : ℕ) → List Float → List Float
 terms_added pairs many ts k = turns (λ j. one_added pairs (get_or ts j nan) (k + j)) many
-
--- six sums a pixel, or two
-abbrev pub SixOrTwo : ℕ → Type 0
-SixOrTwo many = (many ≡ 6) ⊎ (many ≡ 2)

@@ -3,9 +3,6 @@
 
 ghost use Rattle.std.specs.Prelude.{◌≡◌};
 ghost use Rattle.rules.specs.Stats.{one_if_apart, six_terms};
-ghost use Rattle.calls.specs.Lent.{listed};
-
-use rules::Sums;
 
 // 1 for two samples more than 24 apart. Both signs are tried, and no sign is branched on.
 #[tactic(auto, using(crate::proofs::Apart::both_signs))]
@@ -18,16 +15,16 @@ fn is_apart(a: f32, b: f32) -> u8
 
 // The six terms: pb and pa are the moved samples, ib and ia the bytes.
 #[tactic(auto, unfolding(rules::specs::Stats::six_terms))]
-pub fn six_terms(pb: f32, pa: f32, ib: f32, ia: f32) -> Sums
-    ensures { listed result ≡ six_terms pb pa ib ia }
+pub fn six_terms(pb: f32, pa: f32, ib: f32, ia: f32) -> [f32; 6]
+    ensures { result ≡ six_terms pb pa ib ia }
 {
     let apart = is_apart(pb, ib) + is_apart(pa, ia);
-    Sums {
-        p: pb + pa,
-        i: ib + ia,
-        pp: pb * pb + pa * pa,
-        pi: pb * ib + pa * ia,
-        ii: ib * ib + ia * ia,
-        apart: f32::from(apart),
-    }
+    [
+        pb + pa,
+        ib + ia,
+        pb * pb + pa * pa,
+        pb * ib + pa * ia,
+        ib * ib + ia * ia,
+        f32::from(apart),
+    ]
 }
