@@ -10,8 +10,9 @@ use Rattle.calls.specs.Lent.{plane_of}
 use Rattle.plane.specs.Slices.{Slices, slice}
 use Rattle.sample.specs.Points.{PlaneFits, Within}
 use Rattle.motion.specs.declared.Carried.{Carried}
-use Rattle.motion.specs.Moves.{motion_of, Moves, Holds}
-use Rattle.stats_add.specs.Added.{terms_added, SixOrTwo}
+use Rattle.motion.specs.declared.Motion.{Motion as Moving}
+use Rattle.motion.specs.Moves.{motion_of, Holds}
+use Rattle.stats_add.specs.Added.{terms_added}
 use Rattle.stats_gather.specs.declared.Run.{Run}
 use Rattle.stats_gather.specs.declared.Task.{Task}
 
@@ -40,26 +41,24 @@ unfoldable pub rows_added : (pairs many : ℕ) → Pass → (height : ℕ) → L
 rows_added pairs many f = turns (λ y. row_added pairs many f y (many * (y * f.size.0)) f.size.0)
 
 -- a pair of planes and the motion, as a function is lent them
-abbrev pub pass_of : (frames fields : Slices ℕ) → Task → Pass
-pass_of frames fields t =
+abbrev pub pass_of : (frames : Slices ℕ) → Moving → Task → Pass
+pass_of frames m t =
     record {
       first = plane_of (slice frames 0) t.first;
       second = plane_of (slice frames 1) t.second;
-      motion = motion_of fields t.grid;
+      motion = motion_of m.fields m.lattice.grid;
       size = (t.width, t.height);
-      ratio = t.ratio;
+      ratio = m.lattice.ratio;
     }
 
--- all of them within their limits
-pub record Gathers (frames fields : Slices ℕ) (t : Task) : Type 0 where
+-- both planes within their limits
+pub record Gathers (frames : Slices ℕ) (t : Task) : Type 0 where
   pub first_fits : PlaneFits (slice frames 0) t.first t.width t.height
   pub second_fits : PlaneFits (slice frames 1) t.second t.width t.height
-  pub moves : Moves fields t.grid t.ratio
-  pub kind : SixOrTwo t.many
 
 -- all of a pair is added
-abbrev pub all_added : Task → Pass → List Float → List Float
-all_added t f sums = added t.pairs t.many sums f.first f.second f.motion f.size f.ratio
+abbrev pub all_added : (many : ℕ) → Task → Pass → List Float → List Float
+all_added many t f sums = added t.pairs many sums f.first f.second f.motion f.size f.ratio
 
 -- the terms of a run's pixel by its moved samples
 abbrev pub lane_of : (pb pa : List Float) → (first second : List ℕ) → Task → Run → (k : ℕ) → List Float
@@ -73,8 +72,8 @@ pub record Started (f : Pass) (down : Taps) (start : Carried) (y : ℕ) : Type 0
   pub low : y < f.size.1
 
 -- a run's places lie within the sums
-abbrev pub Room : Task → Run → (n : ℕ) → List Float → Type 0
-Room t run n sums = run.place + t.many * n ≤ length sums
+abbrev pub Room : (many : ℕ) → Run → (n : ℕ) → List Float → Type 0
+Room many run n sums = run.place + many * n ≤ length sums
 
 -- a run in a byte plane
 pub record RowPart (raw : List ℕ) (pitch : ℕ) (run : Run) (n : ℕ) : Type 0 where
@@ -84,12 +83,6 @@ pub record RowPart (raw : List ℕ) (pitch : ℕ) (run : Run) (n : ℕ) : Type 0
   pub long : run.y * pitch + (run.x + n) ≤ length raw
 
 -- a run is added, and columns are held
-pub record RunDone (t : Task) (f : Pass) (down : Taps) (run : Run) (n : ℕ) (before after : List Float) (c : Carried) : Type 0 where
-  pub sums : after ≡ run_added t.pairs t.many (λ j. terms_of f (run.x + j) run.y) run.place n before
+pub record RunDone (many : ℕ) (t : Task) (f : Pass) (down : Taps) (run : Run) (n : ℕ) (before after : List Float) (c : Carried) : Type 0 where
+  pub sums : after ≡ run_added t.pairs many (λ j. terms_of f (run.x + j) run.y) run.place n before
   pub holds : Holds f.motion f.ratio down c
-
--- a run of at most 32 pixels of those that are left, and of one at least
-pub record Length (left n : ℕ) : Type 0 where
-  pub some : 1 ≤ n
-  pub within : n ≤ left
-  pub few : n ≤ 32

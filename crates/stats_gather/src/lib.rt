@@ -1,30 +1,26 @@
-// The sums of one plane, with a pair of frames added.
+// The sums of one plane, with a pair of frames added. How many sums a pixel has is a const parameter: six of luma, two
+// of a chroma plane.
 #![tactic(auto)]
 
 ghost use Rattle.std.specs.Prelude.{◌≡◌, ◌+◌, ◌*◌, ◌<◌, ◌≤◌, length};
-ghost use Rattle.stats_add.specs.Added.{SixOrTwo};
-ghost use Rattle.stats_gather.specs.Sums.{run_added, row_added, all_added, lane_of, Room, Gathers, pass_of, Started, RowPart, RunDone, Length};
+ghost use Rattle.stats_gather.specs.Sums.{run_added, row_added, all_added, lane_of, Room, Gathers, pass_of, Started, RowPart, RunDone};
 
-use motion::{Carried, Grid};
+use motion::{Carried, Motion};
 use rules::Taps;
 use stats_batch::Layout;
 
-// How a plane is added: how many sums a pixel has, the pairs before, the plane's size and ratio, its
-// pitch in both frames, and what the motion is laid out by.
+// How a plane is added: the pairs before, the plane's size, and its pitch in both frames.
 #[derive(Clone, Copy)]
 pub struct Task {
-    pub many: usize,
     pub pairs: usize,
     pub width: usize,
     pub height: usize,
-    pub ratio: usize,
     pub first: usize,
     pub second: usize,
-    pub grid: Grid,
 }
 
-// Where a run of pixels begins: its column and row, and the place of its sums. How many they are is passed beside it,
-// so that loops over them are known to be short.
+// Where a run of pixels begins: its column and row, and the place of its sums.
+// Kept: (b) how many they are is passed beside it: with it in the struct a loop isn't known to be short, and stats took 1.02.
 #[derive(Clone, Copy)]
 pub struct Run {
     pub place: usize,
@@ -33,7 +29,8 @@ pub struct Run {
 }
 
 // Adds the terms of a run: pb and pa are the moved samples.
-fn add_run(
+#[tactic(auto, unfolding(crate::specs::Sums::run_added, rules::specs::Forms::turns))]
+fn add_run<const MANY: usize>(
     sums: &mut [f32],
     first: &[u8],
     second: &[u8],
@@ -43,47 +40,50 @@ fn add_run(
     run: Run,
     n: usize,
 )
-    requires { RowPart first.now task.first run n × RowPart second.now task.second run n × SixOrTwo task.many × (n ≤ 32) × Room task run n sums.old }
-    ensures { sums.new ≡ run_added task.pairs task.many (lane_of pb pa first.now second.now task run) run.place n sums.old }
+    requires first { RowPart first.now task.first run n }
+    requires second { RowPart second.now task.second run n }
+    requires terms { MANY ≤ 6 }
+    requires few { n ≤ 32 }
+    requires room { Room MANY run n sums.old }
+    ensures { sums.new ≡ run_added task.pairs MANY (lane_of pb pa first.now second.now task run) run.place n sums.old }
 {
-    let many = task.many;
-    let pairs = task.pairs;
-    let first_pitch = task.first;
-    let second_pitch = task.second;
-    let x = run.x;
-    let y = run.y;
-    let mut at = run.place;
-    let mut k = 0;
-    while k < n {
+    let Task {
+        pairs,
+        first: first_pitch,
+        second: second_pitch,
+        ..
+    } = task;
+    let Run { place, x, y } = run;
+    for k in 0..n {
         let ib = sample::at(second, second_pitch, x + k, y);
         let ia = sample::at(first, first_pitch, x + k, y);
         let terms = stats_terms::six_terms(pb[k], pa[k], ib, ia);
-        stats_add::add_terms(sums, at, many, pairs, terms);
-        at += many;
-        k += 1;
+        stats_add::add_terms::<MANY>(sums, place + MANY * k, pairs, terms);
     }
 }
 
 // Adds a run. Gives the columns to carry on.
-fn gather_run(
+fn gather_run<const MANY: usize>(
     sums: &mut [f32],
     frames: [&[u8]; 2],
-    fields: [&[u16]; 4],
+    motion: Motion,
     task: Task,
     down: Taps,
     previous: Carried,
     run: Run,
     n: usize,
 ) -> Carried
-    requires { Gathers frames fields task × Started (pass_of frames fields task) down previous run.y × (run.x + n ≤ task.width) × (n ≤ 32) × Room task run n sums.old }
-    ensures { RunDone task (pass_of frames.entry fields.entry task) down run n sums.old sums.new result }
+    requires gathers { Gathers frames task }
+    requires started { Started (pass_of frames motion task) down previous run.y }
+    requires terms { MANY ≤ 6 }
+    requires within { run.x + n ≤ task.width }
+    requires few { n ≤ 32 }
+    requires room { Room MANY run n sums.old }
+    ensures { RunDone MANY task (pass_of frames.entry motion.entry task) down run n sums.old sums.new result }
 {
-    let x = run.x;
-    let y = run.y;
-    let width = task.width;
-    let height = task.height;
-    let first = frames[0];
-    let second = frames[1];
+    let Task { width, height, .. } = task;
+    let Run { x, y, .. } = run;
+    let [first, second] = frames;
     let one = Layout {
         pitch: task.first,
         width,
@@ -94,88 +94,88 @@ fn gather_run(
         width,
         height,
     };
-    let shifts = stats_batch::steps(fields, task.grid, task.ratio, down, previous, x, n);
-    let fx = shifts.fx;
-    let fy = shifts.fy;
-    let bx = shifts.bx;
-    let by = shifts.by;
-    let pb = stats_batch::moved(first, one, fx, fy, x, y, n);
-    let pa = stats_batch::moved(second, two, bx, by, x, y, n);
-    add_run(sums, first, second, task, pb, pa, run, n);
+    let shifts = stats_batch::steps(motion, down, previous, x, n);
+    let pb = stats_batch::moved(first, one, shifts.fx, shifts.fy, x, y, n);
+    let pa = stats_batch::moved(second, two, shifts.bx, shifts.by, x, y, n);
+    add_run::<MANY>(sums, first, second, task, pb, pa, run, n);
     shifts.held
-}
-
-// How many pixels of those left in a row are added at once.
-fn run_length(left: usize) -> usize
-    requires { 1 ≤ left }
-    ensures { Length left result }
-{
-    if left < 32 { left } else { 32 }
 }
 
 // The pixels of a row, from place `place` on, run by run: neighbours share the columns of their block, which
 // are carried.
-fn gather_pixels(
+fn gather_pixels<const MANY: usize>(
     sums: &mut [f32],
     frames: [&[u8]; 2],
-    fields: [&[u16]; 4],
+    motion: Motion,
     task: Task,
     down: Taps,
     start: Carried,
     place: usize,
     y: usize,
 )
-    requires { Gathers frames fields task × Started (pass_of frames fields task) down start y × (place + task.many * task.width ≤ length sums.old) }
-    ensures { sums.new ≡ row_added task.pairs task.many (pass_of frames.entry fields.entry task) y place task.width sums.old }
+    requires gathers { Gathers frames task }
+    requires started { Started (pass_of frames motion task) down start y }
+    requires terms { MANY ≤ 6 }
+    requires room { place + MANY * task.width ≤ length sums.old }
+    ensures { sums.new ≡ row_added task.pairs MANY (pass_of frames.entry motion.entry task) y place task.width sums.old }
 {
-    let many = task.many;
     let width = task.width;
     let mut held = start;
-    let mut k = place;
     let mut x = 0;
     while x < width {
-        let n = run_length(width - x);
-        let run = Run { place: k, x, y };
-        held = gather_run(sums, frames, fields, task, down, held, run, n);
-        k += many * n;
+        let n = (width - x).min(32);
+        let run = Run {
+            place: place + MANY * x,
+            x,
+            y,
+        };
+        held = gather_run::<MANY>(sums, frames, motion, task, down, held, run, n);
         x += n;
     }
 }
 
-// A row, from place `place` on: the grid's rows around it are found once.
-fn gather_row(
+// A row: the grid's rows around it are found once.
+#[tactic(auto, using(motion::proofs::Fields::same_rows))]
+fn gather_row<const MANY: usize>(
     sums: &mut [f32],
     frames: [&[u8]; 2],
-    fields: [&[u16]; 4],
+    motion: Motion,
     task: Task,
-    place: usize,
     y: usize,
 )
-    requires { Gathers frames fields task × (y < task.height) × (place + task.many * task.width ≤ length sums.old) }
-    ensures { sums.new ≡ row_added task.pairs task.many (pass_of frames.entry fields.entry task) y place task.width sums.old }
+    requires gathers { Gathers frames task }
+    requires terms { MANY ≤ 6 }
+    requires low { y < task.height }
+    requires long { length sums.old ≡ MANY * (task.width * task.height) }
+    ensures { sums.new
+        ≡ row_added task.pairs MANY (pass_of frames.entry motion.entry task) y (MANY * (y * task.width)) task.width sums.old }
 {
-    let grid = task.grid;
-    let ratio = task.ratio;
-    let down = motion::row_taps(grid, ratio, y);
-    let across = motion::column_taps(grid, ratio, 0);
+    let Motion { fields, lattice } = motion;
+    let down = lattice.row_taps(y);
+    let across = lattice.column_taps(0);
     let start = motion::around(
-        fields[0], fields[1], fields[2], fields[3], grid, ratio, down, across,
+        fields[0],
+        fields[1],
+        fields[2],
+        fields[3],
+        lattice.grid,
+        lattice.ratio,
+        down,
+        across,
     );
-    gather_pixels(sums, frames, fields, task, down, start, place, y);
+    let place = MANY * (y * task.width);
+    gather_pixels::<MANY>(sums, frames, motion, task, down, start, place, y);
 }
 
-// Adds a pair of planes to the sums of a plane: six of them a pixel, or two.
-pub fn gather(sums: &mut [f32], frames: [&[u8]; 2], fields: [&[u16]; 4], task: Task)
-    requires { Gathers frames fields task × (length sums.old ≡ task.many * (task.width * task.height)) }
-    ensures { sums.new ≡ all_added task (pass_of frames.entry fields.entry task) sums.old }
+// Adds a pair of planes to the sums of a plane.
+#[tactic(auto, unfolding(crate::specs::Sums::rows_added, rules::specs::Forms::turns))]
+pub fn gather<const MANY: usize>(sums: &mut [f32], frames: [&[u8]; 2], motion: Motion, task: Task)
+    requires gathers { Gathers frames task }
+    requires terms { MANY ≤ 6 }
+    requires long { length sums.old ≡ MANY * (task.width * task.height) }
+    ensures { sums.new ≡ all_added MANY task (pass_of frames.entry motion.entry task) sums.old }
 {
-    let height = task.height;
-    let step = task.many * task.width;
-    let mut place = 0;
-    let mut y = 0;
-    while y < height {
-        gather_row(sums, frames, fields, task, place, y);
-        place += step;
-        y += 1;
+    for y in 0..task.height {
+        gather_row::<MANY>(sums, frames, motion, task, y);
     }
 }
