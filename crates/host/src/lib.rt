@@ -648,7 +648,15 @@ pub fn safeteal_parcel_sizes(parcel: &[u8]) -> Sizes
 pub fn safeteal_walk_start(width: usize, height: usize, ratio: usize, pairs: usize) -> Walked
     ensures { result ≡ walk_start_answer (width, height) ratio pairs }
 {
-    walk_state::start(width, height, ratio, pairs)
+    let none = Walk {
+        width: 0,
+        height: 0,
+        ratio: 0,
+        pairs: 0,
+        added: 0,
+        taken: 0,
+    };
+    walk_state::told(walk_state::start(width, height, ratio, pairs), none)
 }
 
 // Of the sums, `chroma12` are those of plane 2 in slot 1.

@@ -2,18 +2,17 @@
 #![tactic(auto)]
 
 ghost use Rattle.std.specs.Prelude.{◌≡◌, ◌&&◌, true, ◌∷◌, ◌+◌, ◌%◌, ◌≤◌};
-ghost use Rattle.rules.specs.Refusals.{◌unless◌, Table, first_fitting, size_rows};
-ghost use Rattle.rules.specs.Walk.{chunks as chunks_of, chunk_of, pairs_in, is_left, is_due, is_turn, walk_size, walked, moved, walk_start_answer, walk_due};
-ghost use Rattle.walk_state.specs.Counts.{Counts, Room, counts_of, is_long, are_long};
+ghost use Rattle.rules.specs.Refusals.{◌unless◌, Table, first_fitting, number_or, size_rows};
+ghost use Rattle.rules.specs.Walk.{chunks as chunks_of, chunk_of, pairs_in, is_left, is_due, is_turn, walk_size, started, moved, walk_start_answer, walk_due};
+ghost use Rattle.walk_state.specs.Counts.{Counts, Room, counts_of, is_long, are_long, told_by};
 
-use rules::{Walk, Walked};
+use rules::{Refusal, Walk, Walked};
 
-// How many chunks a clip has. No sum wraps.
+// How many chunks a clip has.
 pub fn chunks(pairs: usize) -> usize
     ensures { result ≡ chunks_of pairs }
 {
-    let begun = plane::bit(pairs % 12 != 0);
-    pairs / 12 + begun as usize
+    pairs.div_ceil(12)
 }
 
 // How many layers of a clip are due or were, once so many pairs were added.
@@ -24,16 +23,19 @@ pub fn ready(pairs: usize, added: usize) -> usize
     if added == pairs {
         return chunks(pairs);
     }
-    if added < 24 { 0 } else { added / 12 - 1 }
+    (added / 12).saturating_sub(1)
 }
 
 // Whether accepted calls can leave a walk so.
 pub fn left(walk: Walk) -> bool
     ensures { result ≡ is_left walk }
 {
-    let pairs = walk.pairs;
-    let added = walk.added;
-    let taken = walk.taken;
+    let Walk {
+        pairs,
+        added,
+        taken,
+        ..
+    } = walk;
     if pairs < added {
         return false;
     }
@@ -42,41 +44,32 @@ pub fn left(walk: Walk) -> bool
         return taken <= most;
     }
     let least = ready(pairs, added - 1);
-    plane::both(taken <= most, least <= taken)
+    (taken <= most) & (least <= taken)
 }
 
 // Whether they can, and a layer is due.
 pub fn due(walk: Walk) -> bool
     ensures { result ≡ (is_left walk && is_due walk) }
 {
-    if left(walk) {
-        walk.taken < ready(walk.pairs, walk.added)
-    } else {
-        false
-    }
+    left(walk) && walk.taken < ready(walk.pairs, walk.added)
 }
 
 // Whether it is the turn of the pair with this number.
 pub fn turn(walk: Walk, number: usize) -> bool
     ensures { result ≡ is_turn walk number }
 {
-    if left(walk) {
-        let none = ready(walk.pairs, walk.added) <= walk.taken;
-        plane::all(number == walk.added, walk.added < walk.pairs, none)
-    } else {
-        false
+    if !left(walk) {
+        return false;
     }
+    let none = ready(walk.pairs, walk.added) <= walk.taken;
+    (number == walk.added) & (walk.added < walk.pairs) & none
 }
 
 // How many of the first `added` pairs are chunk c's. No product wraps.
 pub fn counted(added: usize, c: usize) -> usize
     ensures { result ≡ pairs_in added c }
 {
-    if added / 12 < c {
-        return 0;
-    }
-    let more = added - 12 * c;
-    if more < 12 { more } else { 12 }
+    added.saturating_sub(c.saturating_mul(12)).min(12)
 }
 
 // The pairs of the parts that a due layer is fitted from: of the previous part, the own and the next, 0 where there is
@@ -100,14 +93,14 @@ pub fn slot_of(number: usize) -> usize
     number / 12 % 3
 }
 
-// The lengths of a slot's slices.
-fn summed(luma: usize, chroma1: usize, chroma2: usize, walk: Walk) -> bool
-    ensures { result ≡ is_long luma chroma1 chroma2 walk }
+// The lengths of a slot's slices: luma's, and those of planes 1 and 2.
+fn summed(lengths: [usize; 3], walk: Walk) -> bool
+    ensures { result ≡ is_long lengths walk }
 {
     plane::exact_planes(
-        luma,
-        chroma1,
-        chroma2,
+        lengths[0],
+        lengths[1],
+        lengths[2],
         6,
         walk.width,
         walk.height,
@@ -116,88 +109,69 @@ fn summed(luma: usize, chroma1: usize, chroma2: usize, walk: Walk) -> bool
 }
 
 // The lengths of the nine slices of a walk's sums, slot by slot.
-pub fn slotted(lengths: [usize; 9], walk: Walk) -> bool
+pub fn slotted(lengths: [[usize; 3]; 3], walk: Walk) -> bool
     ensures { result ≡ are_long lengths walk }
 {
-    let first = summed(lengths[0], lengths[1], lengths[2], walk);
-    let second = summed(lengths[3], lengths[4], lengths[5], walk);
-    let third = summed(lengths[6], lengths[7], lengths[8], walk);
-    plane::both(first, plane::both(second, plane::both(third, true)))
+    summed(lengths[0], walk) & summed(lengths[1], walk) & summed(lengths[2], walk)
 }
 
-// The number of a size, a ratio or a slice of the sums that is wrong, or else `rest`.
-pub fn tested(lengths: [usize; 9], walk: Walk, rest: u8) -> u8
-    ensures { (rows : Table) → rest ≡ first_fitting rows → result ≡ first_fitting (size_rows (walk_size walk) walk.ratio ((4 unless are_long lengths walk) ∷ rows)) }
+// The tests of a walk's sizes and ratio, and of the slices of the sums.
+#[tactic(auto, unfolding(rules::specs::Refusals::first_fitting))]
+pub fn tested(lengths: [[usize; 3]; 3], walk: Walk) -> Result<(), Refusal>
+    ensures { (rows : Table) → first_fitting (size_rows (walk_size walk) walk.ratio ((4 unless are_long lengths walk) ∷ rows)) ≡ number_or result (first_fitting rows) }
 {
-    let width = walk.width;
-    let height = walk.height;
-    let sums = plane::unless(4, slotted(lengths, walk), rest);
-    plane::unless(
-        1,
-        plane::sizes(width, height),
-        plane::unless(2, plane::ratioed(walk.ratio, width, height), sums),
-    )
+    let Walk {
+        width,
+        height,
+        ratio,
+        ..
+    } = walk;
+    let sizes = plane::sizes(width, height);
+    plane::ensure(sizes, Refusal::Size)?;
+    plane::ensure(plane::ratioed(ratio, width, height), Refusal::Ratio)?;
+    plane::ensure(slotted(lengths, walk), Refusal::Length)
 }
 
-// The answer of a call: the new walk, or by a refusal the old one.
-fn answer(number: u8, new: Walk, old: Walk) -> Walked
-    ensures { result ≡ walked number new old }
+// What a call of a walk answers, as it passes to C: the new walk, or by a refusal the old one.
+pub fn told(done: Result<Walk, Refusal>, old: Walk) -> Walked
+    ensures { result ≡ told_by done old }
 {
-    if number == 0 {
-        return Walked { word: 0, walk: new };
-    }
-    Walked {
-        word: number as u64,
-        walk: old,
+    match done {
+        Ok(walk) => Walked { word: 0, walk },
+        Err(refusal) => Walked {
+            word: u64::from(u8::from(refusal)),
+            walk: old,
+        },
     }
 }
 
-// The answer of a call that adds so many pairs and takes so many layers.
-pub fn after(number: u8, walk: Walk, pairs: usize, layers: usize) -> Walked
-    requires { number ≡ 0 → Room walk pairs layers }
-    ensures { result ≡ walked number (moved walk (walk.added + pairs) (walk.taken + layers)) walk }
+// A walk with so many pairs added and so many layers taken besides.
+pub fn after(walk: Walk, pairs: usize, layers: usize) -> Walk
+    requires { Room walk pairs layers }
+    ensures { result ≡ moved walk (walk.added + pairs) (walk.taken + layers) }
 {
-    if number != 0 {
-        return answer(number, walk, walk);
-    }
-    let next = Walk {
-        width: walk.width,
-        height: walk.height,
-        ratio: walk.ratio,
-        pairs: walk.pairs,
+    Walk {
         added: walk.added + pairs,
         taken: walk.taken + layers,
-    };
-    answer(number, next, walk)
+        ..walk
+    }
 }
 
 // The start of a walk, or a refusal: the contract is the equation for both.
-pub fn start(width: usize, height: usize, ratio: usize, pairs: usize) -> Walked
-    ensures { result ≡ walk_start_answer (width, height) ratio pairs }
+#[tactic(auto, unfolding(rules::specs::Walk::walk_start_refusal, rules::specs::Refusals::first_fitting))]
+pub fn start(width: usize, height: usize, ratio: usize, pairs: usize) -> Result<Walk, Refusal>
+    ensures { told_by result (started (0, 0) 0 0) ≡ walk_start_answer (width, height) ratio pairs }
 {
-    let started = Walk {
+    plane::ensure(plane::sizes(width, height), Refusal::Size)?;
+    plane::ensure(plane::ratioed(ratio, width, height), Refusal::Ratio)?;
+    Ok(Walk {
         width,
         height,
         ratio,
         pairs,
         added: 0,
         taken: 0,
-    };
-    let none = Walk {
-        width: 0,
-        height: 0,
-        ratio: 0,
-        pairs: 0,
-        added: 0,
-        taken: 0,
-    };
-    let sizes = plane::sizes(width, height);
-    let number = plane::unless(
-        1,
-        sizes,
-        plane::unless(2, plane::ratioed(ratio, width, height), 0),
-    );
-    answer(number, started, none)
+    })
 }
 
 // Whether a layer is due: no of a walk that no calls leave.
@@ -206,5 +180,5 @@ pub fn asked(walk: Walk) -> bool
 {
     let sizes = plane::sizes(walk.width, walk.height);
     let ratio = plane::ratioed(walk.ratio, walk.width, walk.height);
-    plane::all(sizes, ratio, due(walk))
+    sizes & ratio & due(walk)
 }
