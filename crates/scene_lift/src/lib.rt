@@ -1,10 +1,8 @@
 // Scene values: what a model makes of a sample, and the mean of a ring.
 #![tactic(auto)]
 
-ghost use Rattle.std.specs.Prelude.{◌≡◌, cond};
-ghost use Rattle.rules.specs.Literals.{0·0};
-ghost use Rattle.rules.specs.Float.{◌≺◌, ◌⊘◌};
-ghost use Rattle.rules.specs.Scene.{value as value_of, lift as lift_of, lifted as lifted_of, gathered};
+ghost use Rattle.std.specs.Prelude.{◌≡◌, MatchOption};
+ghost use Rattle.rules.specs.Scene.{value as value_of, lift as lift_of, lifted as lifted_of, gathered, mean_or};
 ghost use Rattle.rules.specs.Unpeel.{relaid as relaid_of};
 
 use rules::{Model, Ring, Scene};
@@ -49,8 +47,9 @@ pub fn added(ring: Ring, value: f32) -> Ring
 }
 
 // The mean of a ring that has any.
+#[tactic(auto, unfolding(rules::specs::Scene::mean_or))]
 pub fn mean(ring: Ring) -> Option<f32>
-    ensures { result ≡ cond (0·0 ≺ ring.count) (Some (ring.total ⊘ ring.count)) None }
+    ensures { MatchOption result ((other : Scene) → mean_or ring other ≡ other) (λ v. (other : Scene) → mean_or ring other ≡ Scene.Lifted v) }
 {
     if 0.0 < ring.count {
         Some(ring.total / ring.count)

@@ -123,13 +123,12 @@ means_from l plane raw size x y radius (suc (suc zero)) other low high = refl
 means_from l plane raw size x y radius (suc (suc (suc zero))) other low high = refl
 means_from l plane raw size x y radius (suc (suc (suc (suc n)))) other low high = absurd (omega arith)
 
--- a ring with any, or with none
-pub means_by : (l : Layer) (plane : ℕ) (raw : Plane) (size : ℕ × ℕ) (x y radius times : ℕ) (other : Scene) (r : Ring) (some : Bool) → 1 ≤ times → times ≤ 3
-    → r ≡ whole_ring l plane raw size x y (radius * times) 3 → lt 0·0 r.count ≡ some
-    → means l plane raw size x y radius (4 - times) other ≡ cond some (Lifted (r.total ⊘ r.count)) (means l plane raw size x y radius (4 - (times + 1)) other)
-unfolding mean_or
-means_by l plane raw size x y radius times other r some low high e t =
-    means_from l plane raw size x y radius times other low high ∙ rw (← e) (simp t)
+-- by what a ring's mean is, or with the other where it has none
+pub means_by : (l : Layer) (plane : ℕ) (raw : Plane) (size : ℕ × ℕ) (x y radius times : ℕ) (other : Scene) (r : Ring) (z : Scene) → 1 ≤ times → times ≤ 3
+    → r ≡ whole_ring l plane raw size x y (radius * times) 3 → mean_or r (means l plane raw size x y radius (4 - (times + 1)) other) ≡ z
+    → means l plane raw size x y radius (4 - times) other ≡ z
+means_by l plane raw size x y radius times other r z low high e t =
+    means_from l plane raw size x y radius times other low high ∙ rw (← e) t
 
 -- ---- over the plane of a plan
 

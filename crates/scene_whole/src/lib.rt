@@ -24,21 +24,16 @@ struct Band {
 
 // Column or row x a radius back, where it is, or a radius on, held to the plane.
 fn held(x: usize, k: usize, radius: usize, size: usize) -> usize
-    requires { (x < size) × (size ≤ 4096) × (radius ≤ 12) }
-    ensures { (result ≡ held_at x k radius size) × (result < size) }
+    requires inside { x < size }
+    requires few { size ≤ 4096 }
+    requires near { radius ≤ 12 }
+    ensures is { result ≡ held_at x k radius size }
+    ensures within { result < size }
 {
-    if k == 0 {
-        if x < radius { 0 } else { x - radius }
-    } else {
-        if k == 1 {
-            x
-        } else {
-            if x + radius < size {
-                x + radius
-            } else {
-                size - 1
-            }
-        }
+    match k {
+        0 => x.saturating_sub(radius),
+        1 => x,
+        _ => (x + radius).min(size - 1),
     }
 }
 
@@ -52,18 +47,12 @@ fn lifted_at<L: Lent>(
     y: usize,
     total: i32,
 ) -> f32
-    requires { SoundOver plan (L.held layer) raw.now pitch × Inside plan x y × Summed plan (L.held layer 0) x y total }
+    requires sound { SoundOver plan (L.held layer) raw.now pitch }
+    requires inside { Inside plan x y }
+    requires summed { Summed plan (L.held layer 0) x y total }
     ensures { result ≡ lift (at (plane_of raw.now pitch) x y) (texel (lay plan.shape (L.held layer)) plan.shape.plane x y) }
 {
-    let model = layer_texel::texel_of(
-        plan,
-        plan.shape.plane == 0,
-        plan.span,
-        layer,
-        x,
-        y,
-        total,
-    );
+    let model = layer_texel::texel_of(plan, plan.shape.plane == 0, plan.span, layer, x, y, total);
     scene_lift::lift(sample::at(raw, pitch, x, y), model)
 }
 
@@ -77,21 +66,20 @@ fn gathered_at<L: Lent>(
     y: usize,
     ring: Ring,
 ) -> Ring
-    requires { SoundOver plan (L.held layer) raw.now pitch × Inside plan x y }
+    requires sound { SoundOver plan (L.held layer) raw.now pitch }
+    requires inside { Inside plan x y }
     ensures { result ≡ gathered (seen (lay plan.shape (L.held layer)) plan.shape.plane (plane_of raw.now pitch) x y) ring }
 {
     let total = layer_numbers::gains(plan, layer, x, y);
     if layer_model::strong(total, plan.span) {
-        scene_lift::added(
-            ring,
-            lifted_at(plan, layer, raw, pitch, x, y, total),
-        )
+        scene_lift::added(ring, lifted_at(plan, layer, raw, pitch, x, y, total))
     } else {
         ring
     }
 }
 
 // Point k of a row of a ring more; the ring has no middle.
+#[tactic(auto, unfolding(crate::specs::Rings::gathered_on))]
 fn point_more<L: Lent>(
     plan: Plan,
     layer: L,
@@ -101,10 +89,12 @@ fn point_more<L: Lent>(
     k: usize,
     ring: Ring,
 ) -> Ring
-    requires { SoundOver plan (L.held layer) raw.now pitch × Inside plan band.x band.row × (band.radius ≤ 12) }
+    requires sound { SoundOver plan (L.held layer) raw.now pitch }
+    requires inside { Inside plan band.x band.row }
+    requires near { band.radius ≤ 12 }
     ensures { result ≡ point_on plan (L.held layer) (plane_of raw.now pitch) band k ring }
 {
-    if plane::both(band.down == 1, k == 1) {
+    if band.down == 1 && k == 1 {
         ring
     } else {
         let column = held(band.x, k, band.radius, plan.across);
@@ -113,27 +103,22 @@ fn point_more<L: Lent>(
 }
 
 // The points of a row of a ring.
-fn ring_row<L: Lent>(
-    plan: Plan,
-    layer: L,
-    raw: &[u8],
-    pitch: usize,
-    band: Band,
-    ring: Ring,
-) -> Ring
-    requires { SoundOver plan (L.held layer) raw.now pitch × Inside plan band.x band.row × (band.radius ≤ 12) }
+#[tactic(auto, unfolding(rules::specs::Forms::turns, crate::specs::Rings::row_ring))]
+fn ring_row<L: Lent>(plan: Plan, layer: L, raw: &[u8], pitch: usize, band: Band, ring: Ring) -> Ring
+    requires sound { SoundOver plan (L.held layer) raw.now pitch }
+    requires inside { Inside plan band.x band.row }
+    requires near { band.radius ≤ 12 }
     ensures { result ≡ band_on plan (L.held layer) (plane_of raw.now pitch) band ring }
 {
     let mut grown = ring;
-    let mut k = 0;
-    while k < 3 {
+    for k in 0..3 {
         grown = point_more(plan, layer, raw, pitch, band, k, grown);
-        k += 1;
     }
     grown
 }
 
 // The ring at this radius.
+#[tactic(auto, unfolding(rules::specs::Forms::turns, crate::specs::Rings::whole_ring))]
 fn ring<L: Lent>(
     plan: Plan,
     layer: L,
@@ -143,15 +128,16 @@ fn ring<L: Lent>(
     y: usize,
     radius: usize,
 ) -> Ring
-    requires { SoundOver plan (L.held layer) raw.now pitch × Inside plan x y × (radius ≤ 12) }
+    requires sound { SoundOver plan (L.held layer) raw.now pitch }
+    requires inside { Inside plan x y }
+    requires near { radius ≤ 12 }
     ensures { result ≡ whole_ring (lay plan.shape (L.held layer)) plan.shape.plane (plane_of raw.now pitch) (plan.across, plan.down) x y radius 3 }
 {
     let mut grown = Ring {
         total: 0.0,
         count: 0.0,
     };
-    let mut down = 0;
-    while down < 3 {
+    for down in 0..3 {
         let row = held(y, down, radius, plan.down);
         let band = Band {
             x,
@@ -160,20 +146,20 @@ fn ring<L: Lent>(
             down,
         };
         grown = ring_row(plan, layer, raw, pitch, band, grown);
-        down += 1;
     }
     grown
 }
 
 // How far the first ring lies: 4 luma pixels. Each divisor is a constant.
 fn fill_step(span: usize) -> usize
-    requires { (1 ≤ span) × (span ≤ 4) }
+    requires some { 1 ≤ span }
+    requires few { span ≤ 4 }
     ensures { result ≡ 4 / span }
 {
-    if span == 1 {
-        4
-    } else {
-        if span == 2 { 2 } else { 1 }
+    match span {
+        1 => 4,
+        2 => 2,
+        _ => 1,
     }
 }
 
@@ -187,17 +173,16 @@ pub fn rings<L: Lent>(
     y: usize,
     value: f32,
 ) -> Scene
-    requires { SoundOver plan (L.held layer) raw.now pitch × Inside plan x y }
+    requires sound { SoundOver plan (L.held layer) raw.now pitch }
+    requires inside { Inside plan x y }
     ensures { result ≡ filled (lay plan.shape (L.held layer)) plan.shape.plane (plane_of raw.now pitch) (float x) (float y) (Scene.Raw value) }
 {
     let radius = fill_step(plan.span);
-    let mut times = 1;
-    while times <= 3 {
+    for times in 1..=3 {
         let ring = ring(plan, layer, raw, pitch, x, y, radius * times);
-        if 0.0 < ring.count {
-            return Scene::Lifted(ring.total / ring.count);
+        if let Some(mean) = scene_lift::mean(ring) {
+            return Scene::Lifted(mean);
         }
-        times += 1;
     }
     Scene::Raw(value)
 }

@@ -15,18 +15,18 @@ pub returns-then-strong : goal.returns-then-strong
 unfolding seen
 returns-then-strong g c =
     let a = c.args in
-    let g = c.gains-total in
+    let n = c.gains-total in
     -- the test is the one of the texel's gain
     let t : (0·2 ≼ abs (texel (lay a.plan.shape (g.L.Lent.held a.layer)) a.plan.shape.plane a.x a.y).gain) ≡ true =
-    rw (g.ensures.is _ _) (rw (← back w32 g.result g.type_inv) (sym c.strong.ensures ∙ c.if-strong.true)) in
+    rw (n.ensures.is _ _) (rw (← back w32 n.result n.type_inv) (sym c.strong.ensures ∙ c.if-strong.true)) in
     rw (c.added.ensures, c.lifted_at.ensures) (taken _ _ _ t)
 
 pub returns-else-strong : goal.returns-else-strong
 unfolding seen
 returns-else-strong g c =
     let a = c.args in
-    let g = c.gains-total in
+    let n = c.gains-total in
     -- the test is the one of the texel's gain
     let t : (0·2 ≼ abs (texel (lay a.plan.shape (g.L.Lent.held a.layer)) a.plan.shape.plane a.x a.y).gain) ≡ false =
-    rw (g.ensures.is _ _) (rw (← back w32 g.result g.type_inv) (sym c.strong.ensures ∙ c.if-strong.false)) in
+    rw (n.ensures.is _ _) (rw (← back w32 n.result n.type_inv) (sym c.strong.ensures ∙ c.if-strong.false)) in
     passed _ _ _ t

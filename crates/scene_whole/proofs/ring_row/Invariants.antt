@@ -1,15 +1,10 @@
 -- The invariant of `scene_whole::ring_row`: the first k points of the row are gathered.
 use mathlib.Core.Path.{◌≡◌}
-use Prim.Native.Nat.{◌-◌, ◌≤◌}
 use Rattle.layer_lent.specs.Lent.{lay}
 use Rattle.scene_whole.specs.Rings.{row_ring}
 use Rattle.scene_whole.proofs.ring_row.Given as goal
 
 abbrev pub invariant-loop-k : goal.invariant-loop-k
 invariant-loop-k g l =
-    (l.grown ≡ row_ring (lay l.plan.shape (g.L.Lent.held l.layer)) l.plan.shape.plane (record { bytes = l.raw; pitch = l.pitch })
-    l.plan.across l.band.x l.band.row l.band.radius l.band.down l.k l.initial.grown)
-    × (l.k ≤ 3)
-
-abbrev pub decreases-loop-k : goal.decreases-loop-k
-decreases-loop-k g l = 3 - l.k
+    l.grown ≡ row_ring (lay l.plan.shape (g.L.Lent.held l.layer)) l.plan.shape.plane (record { bytes = l.raw; pitch = l.pitch })
+    l.plan.across l.band.x l.band.row l.band.radius l.band.down l.k l.initial.grown

@@ -10,13 +10,7 @@ use Rattle.scene_whole.proofs.rings.Given as goal
 
 abbrev pub invariant-loop-times : goal.invariant-loop-times
 invariant-loop-times g l =
-    (filled (lay l.plan.shape (g.L.Lent.held l.layer)) l.plan.shape.plane (record { bytes = l.raw; pitch = l.pitch })
+    filled (lay l.plan.shape (g.L.Lent.held l.layer)) l.plan.shape.plane (record { bytes = l.raw; pitch = l.pitch })
     (float l.x) (float l.y) (Raw l.value)
     ≡ means (lay l.plan.shape (g.L.Lent.held l.layer)) l.plan.shape.plane (record { bytes = l.raw; pitch = l.pitch })
-    (l.plan.across, l.plan.down) l.x l.y l.radius (4 - l.times) (Raw l.value))
-    × (1 ≤ l.times)
-    × (l.times ≤ 4)
-    × (l.radius ≤ 4)
-
-abbrev pub decreases-loop-times : goal.decreases-loop-times
-decreases-loop-times g l = 4 - l.times
+    (l.plan.across, l.plan.down) l.x l.y l.radius (4 - l.times) (Raw l.value)
