@@ -17,7 +17,8 @@ pub struct Numbers {
     pub mask_width: usize,
 }
 
-// How many mask cells a pixel has across and down: as numbers, or as constants, for which a loop is compiled apart.
+// How many mask cells a pixel has across and down. What is a constant of these is compiled apart: a row of a pixel's
+// cells is then summed without a loop.
 pub trait Cells: Copy {
     ghost across: { Self → ℕ };
 
@@ -40,15 +41,21 @@ pub struct Steps {
     pub down: usize,
 }
 
-impl Cells for Steps {
-    ghost across = { λ s. s.across };
+// A constant across, and any number down.
+#[derive(Clone, Copy)]
+pub struct Rows<const ACROSS: usize> {
+    pub down: usize,
+}
+
+impl<const ACROSS: usize> Cells for Rows<ACROSS> {
+    ghost across = { λ _. ACROSS };
 
     ghost down = { λ s. s.down };
 
     const SKIPS: bool = true;
 
     fn across(self) -> usize {
-        self.across
+        ACROSS
     }
 
     fn down(self) -> usize {
@@ -56,6 +63,7 @@ impl Cells for Steps {
     }
 }
 
+// Both constants.
 #[derive(Clone, Copy)]
 pub struct Fixed<const ACROSS: usize, const DOWN: usize>;
 
