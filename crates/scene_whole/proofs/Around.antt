@@ -8,10 +8,10 @@ use native.Mathlib.Omega.{arith}
 use lib.Dec.{eqb, lit<, lit≤}
 use lib.IntN.{ℤ, pos}
 use lib.ListN.{get_or}
-use lib.Ieee.{Float, binary32, lt, of_bits, of_int, div}
+use lib.Ieee.{Float, binary32, of_bits, of_int, div}
 use Rattle.rules.specs.declared.Ring.{Ring}
 use Rattle.rules.specs.declared.Scene.{Scene}
-use Rattle.rules.specs.declared.Scene.TheVariants.{Lifted, Raw}
+use Rattle.rules.specs.declared.Scene.TheVariants.{Raw}
 use Rattle.rules.specs.Forms.{Layer, Plane, plane_ratio, plane_size, turns}
 use Rattle.rules.specs.Literals.{0·0, 4·0}
 use Rattle.rules.specs.Float.{◌⊕◌, ◌⊗◌, ◌⊘◌, float}

@@ -18,7 +18,7 @@ returns-in-Some g c =
 pub loop-times-preserved : goal.loop-times-preserved
 loop-times-preserved g c =
     let at-loop = c.loop-times in
-    at-loop.invariant ∙ means_by _ _ _ _ _ _ _ _ _ _ _ at-loop.auto.times (omega arith) c.ring-ring.ensures (c.in_default.ensures tt _)
+    at-loop.invariant ∙ means_by _ _ _ _ _ _ _ _ _ _ _ at-loop.auto.times (omega arith) c.ring-ring.ensures (c.in_default.ensures _)
 
 pub returns : goal.returns
 unfolding means

@@ -1,6 +1,6 @@
 -- The invariant of `scene_whole::rings`: what is filled is the mean of the first ring from here on that has any.
 use mathlib.Core.Path.{◌≡◌}
-use Prim.Native.Nat.{◌-◌, ◌≤◌}
+use Prim.Native.Nat.{◌-◌}
 use Rattle.rules.specs.declared.Scene.TheVariants.{Raw}
 use Rattle.rules.specs.Float.{float}
 use Rattle.rules.specs.Scene.{filled}
