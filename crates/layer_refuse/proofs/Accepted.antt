@@ -2,17 +2,19 @@
 -- nothing. Assumes nothing.
 use mathlib.Core.Path.{◌≡◌, refl}
 use mathlib.Core.Bool.{Bool, true, false, not, cond, ◌&&◌}
+use mathlib.Core.List.{List}
 use Prim.Native.Nat.{ℕ, ◌*◌, ◌/◌}
 use native.Mathlib.Omega.{arith}
 use borrow.Author.Tests.{leb-true}
 use lib.Dec.{leb}
 use lib.ListN.{length}
-use Rattle.rules.specs.Domain.{are_sizes, is_ratio, is_pitch, layer_pitches, layer_lengths}
+use Rattle.rules.specs.Forms.{Plane, plane_size}
+use Rattle.rules.specs.Domain.{are_sizes, is_ratio, is_pitch, have_pitches, have_lengths, layer_pitches, layer_lengths}
+use Rattle.rules.specs.Refusals.{Table, first_fitting, layer_rows}
 use Rattle.laws.proofs.Accepted.{both, sizes_in, ratio_in, pitch_in}
 use Rattle.layer_lent.specs.declared.Shape.{Shape}
 use Rattle.layer_lent.specs.Lent.{lay, plan_of, Formed, Sound, Held}
 use Rattle.layer_lent.proofs.Plans.{planned_in}
-use Rattle.layer_refuse.specs.Rows.{rows_of}
 
 -- no row fits
 record Passed (a b c d e f g : Bool) (rest : ℕ) : Type 0 where
@@ -38,25 +40,27 @@ passed true false c d e f g rest z = absurd (omega arith)
 passed false b c d e f g rest z = absurd (omega arith)
 
 -- what an accepted call may rely on
-pub record Accepted (s : Shape) (held : Held) (pitched long : Bool) (rest : ℕ) : Type 0 where
+pub record Accepted (s : Shape) (held : Held) (lent : List Plane) (rest : Table) : Type 0 where
   pub sound : Sound (plan_of s) held
-  pub pitches : pitched ≡ true
-  pub lengths : long ≡ true
-  pub more : rest ≡ 0
+  pub pitches : have_pitches lent (plane_size (lay s held) s.plane) ≡ true
+  pub lengths : have_lengths lent (plane_size (lay s held) s.plane) ≡ true
+  pub more : first_fitting rest ≡ 0
 
-module _ (s : Shape) (held : Held) (pitched long : Bool) (rest : ℕ) where
-  pub accepted : rows_of (lay s held) s.plane pitched long rest ≡ 0 → Accepted s held pitched long rest
+module _ (s : Shape) (held : Held) (lent : List Plane) (rest : Table) where
+  pub accepted : first_fitting (layer_rows (lay s held) s.plane lent rest) ≡ 0 → Accepted s held lent rest
+  unfolding first_fitting
   accepted e =
       let w = s.width in
       let h = s.height in
       let r = s.ratio in
-      let t = passed (leb s.plane 2) (are_sizes (w, h)) (is_ratio r (w, h)) (layer_pitches (lay s held)) pitched long (layer_lengths (lay s held)) rest e in
+      let size = plane_size (lay s held) s.plane in
+      let t = passed (leb s.plane 2) (are_sizes (w, h)) (is_ratio r (w, h)) (layer_pitches (lay s held)) (have_pitches lent size) (have_lengths lent size) (layer_lengths (lay s held)) (first_fitting rest) e in
       let sizes = sizes_in (w, h) t.second in
       let shrinks = ratio_in (w, h) r sizes t.third in
       let p = both (is_pitch s.luma_pitch w) (is_pitch s.chroma_pitch (w / r)) t.fourth in
-      let nl = leb (2 * (s.luma_pitch * h)) (length (part s held 0)) in
-      let na = leb (2 * (s.chroma_pitch * (h / r))) (length (part s held 1)) in
-      let q = both (nl && na) (leb (2 * (s.chroma_pitch * (h / r))) (length (part s held 2))) t.seventh in
+      let nl = leb (2 * (s.luma_pitch * h)) (length (held 0)) in
+      let na = leb (2 * (s.chroma_pitch * (h / r))) (length (held 1)) in
+      let q = both (nl && na) (leb (2 * (s.chroma_pitch * (h / r))) (length (held 2))) t.seventh in
       let k = both nl na q.0 in
       let formed : Formed s = record {
         wide = sizes.0;
