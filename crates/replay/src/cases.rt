@@ -1,3 +1,13 @@
+// Slices of a case, each copied into an array of its own, that a call may write or that hold other numbers than bytes.
+macro_rules! load {
+    ($case:ident, $zero:literal, $($k:literal => $name:ident),*) => {
+        $(
+            let mut $name = [$zero; ROOM];
+            let $name = $case.load($k, &mut $name);
+        )*
+    };
+}
+
 pub mod of_apply;
 pub mod of_assemble;
 pub mod of_distances;

@@ -1,64 +1,83 @@
-// The cases of the list, one after another, counted by their calls' numbers.
-use crate::right::Check;
+// The cases of the list, one after another, counted by their calls, and the lines that say so.
+use crate::call::Call;
+use crate::case::Case;
+use crate::check::Check;
+use std::io;
 
-pub const CALLS: usize = 13;
+// Cases that are equal and that are different.
+#[derive(Clone, Copy)]
+pub struct Count {
+    equal: u64,
+    different: u64,
+}
+
+impl Count {
+    pub const NONE: Count = Count {
+        equal: 0,
+        different: 0,
+    };
+
+    // One more.
+    fn add(&mut self, right: bool) {
+        if right {
+            self.equal = self.equal.saturating_add(1);
+        } else {
+            self.different = self.different.saturating_add(1);
+        }
+    }
+
+    fn is_none(self) -> bool {
+        self.equal == 0 && self.different == 0
+    }
+
+    // One line.
+    fn print(self, rt: &impl Print, name: &str) -> io::Result<()> {
+        let Count { equal, different } = self;
+        println!(rt; "{name}: {equal} equal, {different} different")
+    }
+}
 
 // A count for each call, and one for all cases.
-pub const COUNTS: usize = CALLS + 1;
-
-// One case. What no call here has cannot be read, nor can what comes after it.
-fn run(all: &[u8], at: usize) -> Check {
-    match crate::list::long(all, at) {
-        0 => crate::cases::of_distances::run(all, at),
-        1 => crate::cases::of_mask::run(all, at),
-        2 => crate::cases::of_apply::run(all, at),
-        3 => crate::cases::of_hold::run(all, at),
-        4 => crate::cases::of_peel::run(all, at),
-        5 => crate::cases::of_unpeel::run(all, at),
-        6 => crate::cases::of_peel_numbers::run(all, at),
-        7 => crate::cases::of_unpeel_numbers::run(all, at),
-        8 => crate::cases::of_empty::run(all, at),
-        9 => crate::cases::of_stats::run(all, at),
-        10 => crate::cases::of_assemble::run(all, at),
-        11 => crate::cases::of_fit::run(all, at),
-        12 => crate::cases::of_render::run(all, at),
-        _ => crate::right::unread(),
-    }
+#[derive(Clone, Copy)]
+pub struct Tally {
+    calls: [Count; 13],
+    all: Count,
 }
 
-// One more of count k.
-fn more(counts: &mut [u64; COUNTS], k: usize) {
-    if k < COUNTS {
-        let n = counts[k];
-        if n < u64::MAX {
-            counts[k] = n + 1;
+impl Tally {
+    // A line for each call that the list has cases of. The last line, for all, is there even if the list has no case.
+    pub fn print(&self, rt: &impl Print) -> io::Result<()> {
+        for (call, count) in Call::ALL.iter().zip(&self.calls) {
+            if !count.is_none() {
+                count.print(rt, call.name())?;
+            }
         }
+        self.all.print(rt, "all")
     }
 }
 
-// One more case of a call, and of all.
-fn count(counts: &mut [u64; COUNTS], id: u64) {
-    if id < CALLS as u64 {
-        more(counts, id as usize);
-    }
-    more(counts, CALLS);
-}
-
-// Every case of the list.
-pub fn list(all: &[u8], equal: &mut [u64; COUNTS], different: &mut [u64; COUNTS]) {
+// Every case of the list. What no call here has cannot be read, nor can what comes after it.
+pub fn of(list: &[u8]) -> Tally {
+    let mut tally = Tally {
+        calls: [Count::NONE; 13],
+        all: Count::NONE,
+    };
     let mut at = 0;
-    while at < all.len() {
-        let check = run(all, at);
-        let id = crate::list::long(all, at);
-        if crate::right::right(check) {
-            count(equal, id);
-        } else {
-            count(different, id);
+    while at < list.len() {
+        let case = Case { list, at };
+        let id = case.call() as usize;
+        let check = match Call::ALL.get(id) {
+            Some(call) => call.run(case),
+            None => Check::unread(case),
+        };
+        if let Some(count) = tally.calls.get_mut(id) {
+            count.add(check.right());
         }
-        let next = check.at;
-        if next <= at {
-            break;
+        tally.all.add(check.right());
+        match check.next {
+            Some(next) if at < next => at = next,
+            _ => break,
         }
-        at = next;
     }
+    tally
 }

@@ -1,13 +1,10 @@
 // The cases of distances.
-use crate::arguments::{ROOM, size};
-use crate::loads::load_bytes;
-use crate::right::Check;
+use crate::case::{Case, ROOM};
+use crate::check::Check;
 
 // Runs one and compares what it answers and leaves.
-pub fn run(all: &[u8], at: usize) -> Check {
-    let mut cells = [0u8; ROOM];
-    let cells = load_bytes(all, at, 0, &mut cells);
-    let ours = host::safeteal_distances(cells, size(all, at, 0));
-    let check = crate::right::answer(all, at, 1, ours);
-    crate::right::bytes(all, check, cells)
+pub fn run<'a>(case: Case<'a>) -> Check<'a> {
+    load!(case, 0u8, 0 => cells);
+    let ours = host::safeteal_distances(cells, case.size(0));
+    Check::answer(case, 1, ours).slice(cells)
 }

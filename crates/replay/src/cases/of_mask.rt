@@ -1,23 +1,20 @@
 // The cases of mask.
-use crate::arguments::{ROOM, bytes, float, size};
-use crate::loads::load_bytes;
-use crate::right::Check;
+use crate::case::{Case, ROOM};
+use crate::check::Check;
 
 // Runs one and compares what it answers and leaves.
-pub fn run(all: &[u8], at: usize) -> Check {
-    let mut still = [0u8; ROOM];
-    let still = load_bytes(all, at, 2, &mut still);
+pub fn run<'a>(case: Case<'a>) -> Check<'a> {
+    load!(case, 0u8, 2 => still);
     let ours = host::safeteal_mask(
-        bytes(all, at, 0),
-        bytes(all, at, 1),
-        size(all, at, 0),
-        size(all, at, 1),
-        size(all, at, 2),
-        float(all, at, 3),
-        float(all, at, 4),
-        float(all, at, 5),
+        case.bytes(0),
+        case.bytes(1),
+        case.size(0),
+        case.size(1),
+        case.size(2),
+        case.float(3),
+        case.float(4),
+        case.float(5),
         still,
     );
-    let check = crate::right::answer(all, at, 3, ours);
-    crate::right::bytes(all, check, still)
+    Check::answer(case, 3, ours).slice(still)
 }

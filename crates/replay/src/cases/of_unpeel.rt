@@ -1,30 +1,27 @@
 // The cases of unpeel.
-use crate::arguments::{ROOM, bytes, float, size};
-use crate::loads::load_bytes;
-use crate::right::Check;
+use crate::case::{Case, ROOM};
+use crate::check::Check;
 
 // Runs one and compares what it answers and leaves.
-pub fn run(all: &[u8], at: usize) -> Check {
-    let mut output = [0u8; ROOM];
-    let output = load_bytes(all, at, 3, &mut output);
+pub fn run<'a>(case: Case<'a>) -> Check<'a> {
+    load!(case, 0u8, 3 => output);
     let ours = host::safeteal_unpeel(
-        bytes(all, at, 0),
-        bytes(all, at, 1),
-        bytes(all, at, 2),
-        size(all, at, 0),
-        size(all, at, 1),
-        size(all, at, 2),
-        size(all, at, 3),
-        size(all, at, 4),
-        size(all, at, 5),
+        case.bytes(0),
+        case.bytes(1),
+        case.bytes(2),
+        case.size(0),
+        case.size(1),
+        case.size(2),
+        case.size(3),
+        case.size(4),
+        case.size(5),
         output,
-        size(all, at, 6),
-        bytes(all, at, 4),
-        size(all, at, 7),
-        bytes(all, at, 5),
-        size(all, at, 8),
-        float(all, at, 9),
+        case.size(6),
+        case.bytes(4),
+        case.size(7),
+        case.bytes(5),
+        case.size(8),
+        case.float(9),
     );
-    let check = crate::right::answer(all, at, 6, ours);
-    crate::right::bytes(all, check, output)
+    Check::answer(case, 6, ours).slice(output)
 }

@@ -1,9 +1,9 @@
--- `replay::right::bits`: a float that equals itself is no NaN.
+-- `replay::stored::bits`: a float that equals itself is no NaN.
 use mathlib.Core.Path.{◌≡◌, subst}
 use mathlib.Core.Bool.{false, not}
 use lib.Dec.{T}
 use lib.Ieee.{Float, nan, inf, fin, ne, is_nan}
-use Rattle.replay.proofs.right.bits.Goals as goal
+use Rattle.replay.proofs.stored.bits.Goals as goal
 
 no_nan : (x : Float) → ne x x ≡ false → T (not (is_nan x))
 unfolding ne is_nan

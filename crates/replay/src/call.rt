@@ -1,0 +1,78 @@
+// The calls that the list has cases of.
+use crate::case::Case;
+use crate::cases::*;
+use crate::check::Check;
+
+// A call; its number in the list is its place here.
+#[derive(Clone, Copy)]
+pub enum Call {
+    Distances,
+    Mask,
+    Apply,
+    Hold,
+    Peel,
+    Unpeel,
+    PeelNumbers,
+    UnpeelNumbers,
+    Empty,
+    Stats,
+    Assemble,
+    Fit,
+    Render,
+}
+
+impl Call {
+    // All of them, in the order of their numbers.
+    pub const ALL: [Call; 13] = [
+        Call::Distances,
+        Call::Mask,
+        Call::Apply,
+        Call::Hold,
+        Call::Peel,
+        Call::Unpeel,
+        Call::PeelNumbers,
+        Call::UnpeelNumbers,
+        Call::Empty,
+        Call::Stats,
+        Call::Assemble,
+        Call::Fit,
+        Call::Render,
+    ];
+
+    pub fn name(self) -> &'static str {
+        match self {
+            Call::Distances => "distances",
+            Call::Mask => "mask",
+            Call::Apply => "apply",
+            Call::Hold => "hold",
+            Call::Peel => "peel",
+            Call::Unpeel => "unpeel",
+            Call::PeelNumbers => "peel_numbers",
+            Call::UnpeelNumbers => "unpeel_numbers",
+            Call::Empty => "empty",
+            Call::Stats => "stats",
+            Call::Assemble => "assemble",
+            Call::Fit => "fit",
+            Call::Render => "render",
+        }
+    }
+
+    // Runs a case of it.
+    pub fn run<'a>(self, case: Case<'a>) -> Check<'a> {
+        match self {
+            Call::Distances => of_distances::run(case),
+            Call::Mask => of_mask::run(case),
+            Call::Apply => of_apply::run(case),
+            Call::Hold => of_hold::run(case),
+            Call::Peel => of_peel::run(case),
+            Call::Unpeel => of_unpeel::run(case),
+            Call::PeelNumbers => of_peel_numbers::run(case),
+            Call::UnpeelNumbers => of_unpeel_numbers::run(case),
+            Call::Empty => of_empty::run(case),
+            Call::Stats => of_stats::run(case),
+            Call::Assemble => of_assemble::run(case),
+            Call::Fit => of_fit::run(case),
+            Call::Render => of_render::run(case),
+        }
+    }
+}

@@ -1,0 +1,110 @@
+// A case of the stored list: what its call takes. Its numbers and its slices are counted from 0.
+use crate::check::Check;
+use crate::stored::Stored;
+
+// Elements that a slice has room for.
+pub const ROOM: usize = 2048;
+
+// The list, and the place of a case in it. A place may be past the list's end.
+#[derive(Clone, Copy)]
+pub struct Case<'a> {
+    pub list: &'a [u8],
+    pub at: usize,
+}
+
+impl<'a> Case<'a> {
+    // What stands at a place.
+    fn read<S: Stored>(self, at: usize) -> S {
+        S::read(self.list, at)
+    }
+
+    // The number of its call.
+    pub fn call(self) -> u32 {
+        self.read(self.at)
+    }
+
+    // The place of the number k, or of what comes after the last one.
+    fn argument(self, k: usize) -> usize {
+        self.at
+            .saturating_add(k.saturating_mul(8))
+            .saturating_add(8)
+    }
+
+    // The number k.
+    pub fn size(self, k: usize) -> usize {
+        self.read::<u64>(self.argument(k)) as usize
+    }
+
+    // The same as a signed number.
+    pub fn int(self, k: usize) -> i32 {
+        self.read(self.argument(k))
+    }
+
+    // As a float.
+    pub fn float(self, k: usize) -> f32 {
+        self.read(self.argument(k))
+    }
+
+    // As a yes or no.
+    pub fn flag(self, k: usize) -> bool {
+        self.read::<u8>(self.argument(k)) != 0
+    }
+
+    // How many slices it takes.
+    pub fn slices(self) -> usize {
+        self.read::<u32>(self.counted()) as usize
+    }
+
+    // Where that is said.
+    fn counted(self) -> usize {
+        self.argument(self.read::<u32>(self.at.saturating_add(4)) as usize)
+    }
+
+    // How many elements the slice at a place has, and how many bytes each; nothing where there is no room for them.
+    fn shape(self, at: usize) -> Option<(usize, usize)> {
+        let width = self.read::<u32>(at) as usize;
+        let n = self.read::<u32>(at.saturating_add(4)) as usize;
+        match width {
+            1 | 2 | 4 if n <= ROOM => Some((n, width)),
+            _ => None,
+        }
+    }
+
+    // Where the slice k stands; after the last one, where the right answer stands.
+    pub fn slice(self, k: usize) -> Option<usize> {
+        let mut at = self.counted().saturating_add(4);
+        for _ in 0..k {
+            let (n, width) = self.shape(at)?;
+            at = at.saturating_add(8).saturating_add(n.saturating_mul(width));
+        }
+        Some(at)
+    }
+
+    // How many elements the slice k has, and where they begin; nothing where they are of another width.
+    fn elements(self, k: usize, width: usize) -> Option<(usize, usize)> {
+        let at = self.slice(k)?;
+        match self.shape(at)? {
+            (n, stored) if stored == width => Some((n, at.saturating_add(8))),
+            _ => None,
+        }
+    }
+
+    // The slice k, which has bytes.
+    pub fn bytes(self, k: usize) -> &'a [u8] {
+        let (n, first) = self.elements(k, 1).unwrap_or((0, 0));
+        self.list.get(first..first.saturating_add(n)).unwrap_or(&[])
+    }
+
+    // The slice k, copied into an array.
+    pub fn load<'r, S: Stored>(self, k: usize, room: &'r mut [S]) -> &'r mut [S] {
+        let (n, first) = self.elements(k, S::WIDTH).unwrap_or((0, 0));
+        let n = n.min(room.len());
+        let lent = &mut room[..n];
+        let mut at = first;
+        for number in lent.iter_mut() {
+            *number = self.read(at);
+            at = at.saturating_add(S::WIDTH);
+        }
+        lent
+    }
+}
