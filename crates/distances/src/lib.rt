@@ -8,6 +8,14 @@ ghost use Rattle.distances.specs.Pass.{Inside, lowest_of, Rows, Passed, Down, Ba
 
 use rules::Refusal;
 
+// The lesser of best and 1 more than other.
+// Kept: best.min(other.saturating_add(1)) has an addition more between a cell and the next: 6.2 ns a cell in place of 5.0.
+fn nearer(best: u8, other: u8) -> u8
+    ensures { result ≡ min best (other + 1) }
+{
+    if other < best { other + 1 } else { best }
+}
+
 // The least of cell at and 1 more than three cells of another row and the one beside it.
 fn lowest(cells: &[u8], at: usize, left: usize, mid: usize, right: usize, beside: u8) -> u8
     requires { Inside (length cells.now) at left mid right }
@@ -15,7 +23,7 @@ fn lowest(cells: &[u8], at: usize, left: usize, mid: usize, right: usize, beside
 {
     let own = cells[at];
     let row = cells[left].min(cells[right]).min(cells[mid]);
-    own.min(row.saturating_add(1)).min(beside.saturating_add(1))
+    nearer(nearer(own, row), beside)
 }
 
 // A row of the first pass, from left to right. Columns and rows are held to the grid: a cell may be read as its own

@@ -36,7 +36,9 @@ fn row<W: Work, C: Cells>(
     }
 }
 
-// The rows, one after the other.
+// The rows, one after the other. Each work and each steps have a function of their own, in which all pointers have
+// registers.
+#[inline(never)]
 #[tactic(auto, using(still_pass::proofs::Pass::rows_none))]
 pub fn rows<W: Work, C: Cells>(output: &mut [u8], work: W, mask: &[u8], numbers: Numbers, steps: C)
     requires room { PlaneIn output.old numbers.output_pitch (numbers.width, numbers.height) }
