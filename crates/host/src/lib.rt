@@ -609,7 +609,6 @@ pub fn safeteal_parcel_write<'n>(
         Told (uncounted (parcel_write_refusal c)) (parcel_write_leaves c) parcel.new result }
 {
     let shape = Shape {
-        packed: false,
         luma_pitch,
         chroma_pitch,
         width,
@@ -621,9 +620,7 @@ pub fn safeteal_parcel_write<'n>(
         second_pitch: 0,
         time: 0.0,
     };
-    let none = [0u8; 1];
-    let bytes = [&none[..], &none[..], &none[..]];
-    told::number(parcel_write::write(parcel, shape, [luma, chroma1, chroma2], bytes))
+    told::told(parcel_write::write(parcel, shape, [luma, chroma1, chroma2]))
 }
 
 pub fn safeteal_parcel_read(

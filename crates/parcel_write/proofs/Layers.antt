@@ -16,7 +16,7 @@ use Rattle.plane.specs.Slices.{slice}
 use Rattle.table.specs.Put.{Put}
 use Rattle.table.proofs.Put.{put_none, put_as, put_join, put_whole}
 use Rattle.layer_lent.specs.declared.Shape.{Shape}
-use Rattle.layer_lent.specs.Lent.{of_numbers, Numbers}
+use Rattle.layer_lent.specs.Lent.{lay, Numbers}
 use Rattle.parcel_put.specs.Runs.{entry_of}
 
 -- ---- what a run holds
@@ -71,20 +71,20 @@ module _ (s : Shape) (numbers : Numbers) where
       → Put first 12 (record_bytes (record_of 2 (row_by_row (s.width, s.height) (entry_of (slice numbers 0) 0 s.luma_pitch)))) second
       → at ≡ 18 + 2 * (s.width * s.height)
       → Put second at (record_bytes (record_of 3 (row_by_row (s.width, s.height) (entry_of (slice numbers 0) (s.height * s.luma_pitch) s.luma_pitch)))) after
-      → Put parcel 0 (run_bytes (take 3 (layer_records (of_numbers s numbers)))) after
+      → Put parcel 0 (run_bytes (take 3 (layer_records (lay s (slice numbers))))) after
   unfolding layer_records
   luma_put at head a e b =
-      let l = of_numbers s numbers in
+      let l = lay s (slice numbers) in
       let size : ℕ × ℕ = (s.width, s.height) in
       let pitch = s.luma_pitch in
       head_then size s.ratio _ head
       (run_then 2 size (λ x y. (luma_gain l x y).0) _ a (first_are (slice numbers 0) pitch size) e
       (run_last 3 size (λ x y. (luma_offset l x y).0) b (later_are (slice numbers 0) pitch s.height size)))
 
-  luma_long : length (run_bytes (take 3 (layer_records (of_numbers s numbers)))) ≡ 24 + 4 * (s.width * s.height)
+  luma_long : length (run_bytes (take 3 (layer_records (lay s (slice numbers))))) ≡ 24 + 4 * (s.width * s.height)
   unfolding layer_records run_bytes
   luma_long =
-      let l = of_numbers s numbers in
+      let l = lay s (slice numbers) in
       let size : ℕ × ℕ = (s.width, s.height) in
       let gains = record_of 2 (row_by_row size (λ x y. (luma_gain l x y).0)) in
       let offsets = record_of 3 (row_by_row size (λ x y. (luma_offset l x y).0)) in
@@ -104,10 +104,10 @@ module _ (s : Shape) (numbers : Numbers) where
         → Put parcel at (record_bytes (record_of 4 (row_by_row (across, rows) (entry_of (slice numbers 1) 0 s.chroma_pitch)))) first → next ≡ at + 6 + 2 * (across * rows)
         → Put first next (record_bytes (record_of 5 (row_by_row (across, rows) (entry_of (slice numbers 2) 0 s.chroma_pitch)))) second → last ≡ next + 6 + 2 * (across * rows)
         → Put second last (record_bytes (record_of 6 (row_by_row (w, h) (entry_of (slice numbers 2) (rows * s.chroma_pitch) s.chroma_pitch)))) after
-        → Put parcel at (run_bytes (drop 3 (layer_records (of_numbers s numbers)))) after
+        → Put parcel at (run_bytes (drop 3 (layer_records (lay s (slice numbers))))) after
     unfolding layer_records
     chroma_put next last a e b f c =
-        let l = of_numbers s numbers in
+        let l = lay s (slice numbers) in
         let pitch = s.chroma_pitch in
         let chroma : ℕ × ℕ = (s.width / s.ratio, s.height / s.ratio) in
         let marks : ℕ × ℕ = (cells s.width, cells s.height) in
@@ -117,11 +117,11 @@ module _ (s : Shape) (numbers : Numbers) where
 
   -- all of it
   pub layer_put : {parcel now after : List ℕ} (at : ℕ) → length parcel ≡ parcel_length (s.width, s.height) s.ratio → at ≡ 24 + 4 * (s.width * s.height)
-      → Put parcel 0 (run_bytes (take 3 (layer_records (of_numbers s numbers)))) now → Put now at (run_bytes (drop 3 (layer_records (of_numbers s numbers)))) after
-      → after ≡ parcel_of (of_numbers s numbers)
+      → Put parcel 0 (run_bytes (take 3 (layer_records (lay s (slice numbers))))) now → Put now at (run_bytes (drop 3 (layer_records (lay s (slice numbers))))) after
+      → after ≡ parcel_of (lay s (slice numbers))
   unfolding parcel_of
   layer_put at long e a b =
-      let l = of_numbers s numbers in
+      let l = lay s (slice numbers) in
       let first = take 3 (layer_records l) in
       let rest = drop 3 (layer_records l) in
       let whole : run_bytes first ++ run_bytes rest ≡ parcel_of l = sym (run_append first rest) ∙ ap run_bytes (take-append-drop 3 (layer_records l)) in

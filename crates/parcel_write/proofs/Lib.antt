@@ -1,4 +1,3 @@
 pub mod Fits
 pub mod Layers
-pub mod Refused
 pub mod Told

@@ -1,10 +1,9 @@
 -- A call of the writer by what it is lent; and what the writer tells.
-use Rattle.std.specs.Prelude.{◌≡◌, List, ℕ, ◌*◌, ◌/◌, ◌≤◌, length}
-use Rattle.rules.specs.declared.Answer.{Answer}
-use Rattle.rules.specs.Forms.{uncounted}
+use Rattle.std.specs.Prelude.{◌≡◌, List, ℕ, ◌*◌, ◌/◌, ◌≤◌, length, Result}
+use Rattle.rules.specs.declared.Refusal.{Refusal}
 use Rattle.rules.specs.Domain.{parcel_length}
 use Rattle.rules.specs.Calls.{ParcelWriteCall}
-use Rattle.rules.specs.Refusals.{parcel_write_refusal}
+use Rattle.rules.specs.Refusals.{numbered, parcel_write_refusal}
 use Rattle.rules.specs.Parcel.{parcel_write_leaves}
 use Rattle.calls.specs.Lent.{parcel_write_call}
 use Rattle.plane.specs.Slices.{slice}
@@ -24,6 +23,6 @@ pub record Fitting (parcel : List ℕ) (s : Shape) (numbers : Numbers) : Type 0 
   pub long : length parcel ≡ parcel_length (s.width, s.height) s.ratio
 
 -- what the writer answers, and what it leaves
-pub record WriteTold (c : ParcelWriteCall) (left : List ℕ) (r : Answer) : Type 0 where
-  pub told : r ≡ uncounted (parcel_write_refusal c)
+pub record WriteTold (c : ParcelWriteCall) (left : List ℕ) (r : Result Unit Refusal) : Type 0 where
+  pub told : numbered r ≡ parcel_write_refusal c
   pub slice : left ≡ parcel_write_leaves c

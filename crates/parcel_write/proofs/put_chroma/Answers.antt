@@ -7,11 +7,11 @@ use Rattle.parcel_write.proofs.put_chroma.Goals as goal
 pub put_record-requires : goal.put_record-requires
 put_record-requires c =
     let a = c.args in
-    let at = c.requires.1 in
-    let next = c.put_record-after.ensures.0 in
-    let last = c.put_record-after-2.ensures.0 in
-    let same = c.put_record-after-2.ensures.1.long ∙ c.put_record-after.ensures.1.long in
-    cells_fit a.shape a.numbers a.parcel.now _ c.requires.0 same _ _ c.divided.ensures c.divided-rows.ensures _ _ _
+    let at = c.requires.place in
+    let next = c.put_record-after.ensures.behind in
+    let last = c.put_record-after-2.ensures.behind in
+    let same = c.put_record-after-2.ensures.done.long ∙ c.put_record-after.ensures.done.long in
+    cells_fit a.shape a.numbers a.parcel.now _ c.requires.fitting same _ _ c.divided.ensures c.divided-rows.ensures _ _ _
     (omega arith) c.cells.ensures c.cells-2.ensures
 
 pub returns : goal.returns
@@ -19,4 +19,4 @@ returns c =
     let one = c.put_record-after.ensures in
     let two = c.put_record-after-2.ensures in
     chroma_put c.args.shape c.args.numbers _ _ _ _ c.divided.ensures c.divided-rows.ensures c.cells.ensures c.cells-2.ensures _ _
-    one.1 one.0 two.1 two.0 c.put_record.ensures.1
+    one.done one.behind two.done two.behind c.put_record.ensures.done

@@ -4,4 +4,5 @@ use Rattle.parcel_write.proofs.put_layer.Goals as goal
 
 pub returns : goal.returns
 returns c =
-    layer_put c.args.shape c.args.numbers _ c.requires.long c.put_luma-at.ensures.0 c.put_luma-at.ensures.1 c.put_chroma.ensures
+    let luma = c.put_luma-at.ensures in
+    layer_put c.args.shape c.args.numbers _ c.requires.long luma.behind luma.done c.put_chroma.ensures

@@ -3,9 +3,10 @@ use Rattle.std.proofs.Common.{◌∙◌, arith}
 use Rattle.parcel_write.proofs.Layers.{luma_put}
 use Rattle.parcel_write.proofs.put_luma.Goals as goal
 
-pub returns : goal.returns
-returns c =
-    let a = c.args in (
-      c.put_record.ensures.0 ∙ rw c.put_record-after.ensures.0 (omega arith),
-      luma_put a.shape a.numbers _ c.put_head.ensures c.put_record-after.ensures.1 c.put_record-after.ensures.0 c.put_record.ensures.1,
-    )
+pub returns-clause-behind : goal.returns-clause-behind
+returns-clause-behind c = c.put_record.ensures.behind ∙ rw c.put_record-after.ensures.behind (omega arith)
+
+pub returns-clause-done : goal.returns-clause-done
+returns-clause-done c =
+    let gains = c.put_record-after.ensures in
+    luma_put c.args.shape c.args.numbers _ c.put_head.ensures gains.done gains.behind c.put_record.ensures.done
