@@ -11,7 +11,7 @@ ghost use Rattle.layer_lent.specs.Lent.{lay, frames_by, Inside};
 ghost use Rattle.layer_point.specs.Points.{LiesOver};
 ghost use Rattle.render_pixel.specs.Shown.{Framed, base_by, seen_by, byte_by};
 
-use layer_lent::{Lent, Plan};
+use layer_lent::{Lent, Plan, Shape};
 use rules::{Model, Moved, Steps};
 
 // A pixel of the plane.
@@ -31,7 +31,8 @@ fn moved<L: Lent>(
     dx: f32,
     dy: f32,
 ) -> Moved
-    requires { LiesOver plan (L.held layer) raw.now pitch × Inside plan spot.x spot.y }
+    requires lies { LiesOver plan (L.held layer) raw.now pitch }
+    requires inside { Inside plan spot.x spot.y }
     ensures { result ≡ moved_of (lay plan.shape (L.held layer)) plan.shape.plane (plane_of raw.now pitch) spot.x spot.y dx dy }
 {
     let u = sample::shifted(spot.x, dx, plan.across);
@@ -58,6 +59,7 @@ fn base(model: Model, first: f32, second: f32, time: f32) -> f32
 }
 
 // The scene chosen for a pixel.
+#[tactic(auto, unfolding(crate::specs::Shown::seen_by))]
 fn seen<L: Lent>(
     plan: Plan,
     layer: L,
@@ -67,17 +69,18 @@ fn seen<L: Lent>(
     algo: i32,
     spot: Spot,
 ) -> f32
-    requires { Framed plan (L.held layer) frames × Inside plan spot.x spot.y }
+    requires framed { Framed plan (L.held layer) frames }
+    requires inside { Inside plan spot.x spot.y }
     ensures { result ≡ seen_by (lay plan.shape (L.held layer)) plan.shape.plane (frames_by plan.shape frames.entry) steps base algo spot.x spot.y }
 {
-    let first = plan.shape.first_pitch;
-    let second = plan.shape.second_pitch;
-    let early = moved(
-        plan, layer, frames[0], first, spot, steps.fx, steps.fy,
-    );
-    let late = moved(
-        plan, layer, frames[1], second, spot, steps.bx, steps.by,
-    );
+    let [first, second] = frames;
+    let Shape {
+        first_pitch,
+        second_pitch,
+        ..
+    } = plan.shape;
+    let early = moved(plan, layer, first, first_pitch, spot, steps.fx, steps.fy);
+    let late = moved(plan, layer, second, second_pitch, spot, steps.bx, steps.by);
     render_choice::between(early, late, base, algo)
 }
 
@@ -91,19 +94,17 @@ pub fn composed<L: Lent>(
     algo: i32,
     spot: Spot,
 ) -> u8
-    requires { Framed plan (L.held layer) frames × Inside plan spot.x spot.y × (near ≡ (gap (lay plan.shape (L.held layer)) plan.shape.plane spot.x spot.y ≼ 0·0)) }
+    requires framed { Framed plan (L.held layer) frames }
+    requires inside { Inside plan spot.x spot.y }
+    requires near { near ≡ (gap (lay plan.shape (L.held layer)) plan.shape.plane spot.x spot.y ≼ 0·0) }
     ensures { result ≡ byte_by (lay plan.shape (L.held layer)) plan.shape.plane (frames_by plan.shape frames.entry) steps algo spot.x spot.y }
 {
     let time = plan.shape.time;
     let model = layer_texel::texel(plan, layer, spot.x, spot.y);
     let early = sample::at(frames[0], plan.shape.first_pitch, spot.x, spot.y);
     let late = sample::at(frames[1], plan.shape.second_pitch, spot.x, spot.y);
-    if render_choice::kept(
-        model,
-        plane::both(near, !fit_model::plain(model)),
-        early,
-        late,
-    ) {
+    let layered = near & !fit_model::plain(model);
+    if render_choice::kept(model, layered, early, late) {
         return float::pixel(float::mix(early, late, time));
     }
     let base = base(model, early, late, time);

@@ -14,12 +14,11 @@ unfolding byte_by layered
 returns-then-kept g c =
     let t = rw (
       c.kept.ensures,
-      c.both.ensures,
       c.plain.ensures,
       c.at-late.ensures,
       c.at-early.ensures,
       c.texel-model.ensures,
-      c.requires.2,
+      c.requires.near,
     ) at c.if-kept.true in
     rw (c.pixel.ensures, c.mix.ensures, c.at-late.ensures, c.at-early.ensures) (ap pixel (kept_is _ _ _ _ _ _ t))
 
@@ -28,15 +27,14 @@ unfolding byte_by layered
 returns g c =
     let t = rw (
       c.kept.ensures,
-      c.both.ensures,
       c.plain.ensures,
       c.at-late.ensures,
       c.at-early.ensures,
       c.texel-model.ensures,
-      c.requires.2,
+      c.requires.near,
     ) at c.if-kept.false in
-    let i = c.requires.1 in
-    let p = c.requires.0.first_ready.lies.sound.planned in
+    let i = c.requires.inside in
+    let p = c.requires.framed.first_ready.sound.planned in
     rw (
       c.pixel-2.ensures,
       c.seen-scene.ensures,
@@ -46,6 +44,6 @@ returns g c =
       c.texel-model.ensures,
       to_z-of_z c.ranges.algo,
       base_is _ _ (frames_by c.args.plan.shape c.args.frames) c.args.spot.x c.args.spot.y
-          (omega (arith, i.left, p.wide)) (omega (arith, i.above, p.tall)) c.requires.0.first_small c.requires.0.second_small,
+          (omega (arith, i.left, p.wide)) (omega (arith, i.above, p.tall)) c.requires.framed.first_small c.requires.framed.second_small,
     )
     (ap pixel (laid_is _ _ _ _ _ _ t))

@@ -9,7 +9,7 @@ pub returns : goal.returns
 unfolding moved_of scene under
 returns g c =
     let a = c.args in
-    let h = c.requires.0.lies.sound.planned in
+    let h = c.requires.lies.sound.planned in
     let l = lay a.plan.shape (g.L.Lent.held a.layer) in
     let wide = across_is a.plan h in
     let tall = down_is a.plan h in
