@@ -1,10 +1,10 @@
 -- Which pixels both works write, and the scene at a pixel, filled. Assumes nothing.
-use mathlib.Core.Path.{◌≡◌, refl, sym, ◌∙◌}
+use mathlib.Core.Path.{◌≡◌, sym}
 use mathlib.Core.Bool.{true, false, not}
 use Prim.Native.Nat.{ℕ, ◌≤◌}
 use lib.ListN.{get_or}
 use lib.Ieee.{Float}
-use Rattle.plane.specs.declared.Change.TheVariants.{Keep, Put}
+use Rattle.std.specs.Prelude.{Some, None}
 use Rattle.plane.specs.Done.{change}
 use Rattle.rules.specs.declared.Model.{Model}
 use Rattle.rules.specs.declared.Scene.TheVariants.{Lifted, Raw}
@@ -14,26 +14,16 @@ use Rattle.rules.specs.Float.{◌≼◌, float}
 use Rattle.rules.specs.Model.{is_plain}
 use Rattle.rules.specs.Reading.{gap, texel, at}
 use Rattle.rules.specs.Scene.{value, lifted, filled, scene}
-use Rattle.rules.specs.Peel.{layered, peel_rule}
-use Rattle.rules.specs.Unpeel.{unpeel_rule}
+use Rattle.rules.specs.Peel.{layered}
 use Rattle.layer_lent.specs.declared.Shape.{Shape}
-use Rattle.layer_lent.specs.Lent.{Bytes, lay, Held}
+use Rattle.layer_lent.specs.Lent.{lay, Held}
 use Rattle.scene_whole.specs.Rings.{seen}
 use Rattle.scene_whole.proofs.Around.{under_whole}
-use Rattle.lift_pixel.specs.declared.Work.{Work}
-use Rattle.lift_pixel.specs.declared.Work.TheVariants.{Peel, Unpeel}
 use Rattle.lift_pixel.specs.Works.{rule_of}
 
--- ---- which are written
+-- ---- which are written, by the gap
 
-pub writes_is : (w : Work) (s : Shape) (held : Held) (frames : Bytes) (x y : ℕ)
-    → (rule_of w s held frames).writes x y ≡ layered (lay s held) s.plane x y
-unfolding peel_rule unpeel_rule
-writes_is Peel s held frames x y = refl
-writes_is Unpeel s held frames x y = refl
-
--- by the gap
-pub near_writes : (l : Layer) (plane x y : ℕ) → (gap l plane x y ≼ 0·0) ≡ true → layered l plane x y ≡ not (is_plain (texel l plane x y))
+near_writes : (l : Layer) (plane x y : ℕ) → (gap l plane x y ≼ 0·0) ≡ true → layered l plane x y ≡ not (is_plain (texel l plane x y))
 unfolding layered
 near_writes l plane x y t = rw t
 
@@ -43,21 +33,14 @@ far_writes l plane x y t = rw t
 
 -- ---- what is done to a pixel of a near cell
 
-module _ (w : Work) (s : Shape) (held : Held) (frames : Bytes) (x y old : ℕ)
-    (near : (gap (lay s held) s.plane x y ≼ 0·0) ≡ true) where
-  pub change_keep : is_plain (texel (lay s held) s.plane x y) ≡ true → Keep ≡ change (rule_of w s held frames) x y old
+module _ (byte : Shape → Held → (x y old : ℕ) → ℕ) (s : Shape) (held : Held) (x y old : ℕ) (near : (gap (lay s held) s.plane x y ≼ 0·0) ≡ true) where
+  pub change_keep : is_plain (texel (lay s held) s.plane x y) ≡ true → None ≡ change (rule_of byte s held) x y old
   unfolding change
-  change_keep t = sym (simp (writes_is w s held frames x y ∙ near_writes (lay s held) s.plane x y near, t))
+  change_keep t = sym (simp (near_writes (lay s held) s.plane x y near, t))
 
-  pub change_put : (b : ℕ) → is_plain (texel (lay s held) s.plane x y) ≡ false → b ≡ (rule_of w s held frames).byte x y old
-      → Put b ≡ change (rule_of w s held frames) x y old
+  pub change_put : (b : ℕ) → is_plain (texel (lay s held) s.plane x y) ≡ false → b ≡ byte s held x y old → Some b ≡ change (rule_of byte s held) x y old
   unfolding change
-  change_put b t e = rw e (sym (simp (writes_is w s held frames x y ∙ near_writes (lay s held) s.plane x y near, t)))
-
-  -- by the work that it is
-  pub put_by : (v : Work) → w ≡ v → (b : ℕ) → is_plain (texel (lay s held) s.plane x y) ≡ false → b ≡ (rule_of v s held frames).byte x y old
-      → Put b ≡ change (rule_of w s held frames) x y old
-  put_by v e b t is = change_put b t (rw e is)
+  change_put b t e = rw e (sym (simp (near_writes (lay s held) s.plane x y near, t)))
 
 -- ---- the scene at a pixel
 

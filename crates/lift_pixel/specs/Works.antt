@@ -1,32 +1,21 @@
--- What a work asks, and its rule.
-use Rattle.std.specs.Prelude.{Bool, true, false}
+-- What a work asks of its frames, and its rule.
+use Rattle.std.specs.Prelude.{List, ℕ}
 use Rattle.rules.specs.Forms.{Rule}
-use Rattle.rules.specs.Peel.{peel_rule}
-use Rattle.rules.specs.Unpeel.{unpeel_rule}
+use Rattle.rules.specs.Peel.{layered}
 use Rattle.layer_lent.specs.declared.Plan.{Plan}
 use Rattle.layer_lent.specs.declared.Shape.{Shape}
-use Rattle.layer_lent.specs.Lent.{Bytes, lay, first_by, frames_by, Sound, Held}
-use Rattle.plane.specs.Slices.{slice}
+use Rattle.layer_lent.specs.Lent.{lay, Held}
 use Rattle.sample.specs.Points.{PlaneFits}
-use Rattle.lift_pixel.specs.declared.Work.{Work}
-use Rattle.lift_pixel.specs.declared.Work.TheVariants.{Peel, Unpeel}
 
--- a byte plane of each frame, over the plane that is worked on
-pub record Framed (p : Plan) (frames : Bytes) : Type 0 where
-  pub first : PlaneFits (slice frames 0) p.shape.first_pitch p.across p.down
-  pub second : PlaneFits (slice frames 1) p.shape.second_pitch p.across p.down
+-- a byte plane over the plane that is worked on
+abbrev pub Over : Plan → (raw : List ℕ) → (pitch : ℕ) → Type 0
+Over p raw pitch = PlaneFits raw pitch p.across p.down
 
--- and a layer
-pub record Given (p : Plan) (held : Held) (frames : Bytes) : Type 0 where
-  pub sound : Sound p held
-  pub framed : Framed p frames
+-- one of each frame
+pub record Framed (p : Plan) (one other : List ℕ) : Type 0 where
+  pub first : Over p one p.shape.first_pitch
+  pub second : Over p other p.shape.second_pitch
 
--- peel looks at the first frame, and unpeel at both
-abbrev pub rule_of : Work → Shape → Held → (frames : Bytes) → Rule
-rule_of Peel s held frames = peel_rule (lay s held) s.plane (first_by s frames)
-rule_of Unpeel s held frames = unpeel_rule (lay s held) s.plane (frames_by s frames)
-
--- whether it is unpeel's
-abbrev pub is_unpeel : Work → Bool
-is_unpeel Peel = false
-is_unpeel Unpeel = true
+-- the pixels that the layer shows in get these bytes
+abbrev pub rule_of : (byte : Shape → Held → (x y old : ℕ) → ℕ) → Shape → Held → Rule
+rule_of byte s held = record { writes = layered (lay s held) s.plane; byte = byte s held }

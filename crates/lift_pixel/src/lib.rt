@@ -1,52 +1,60 @@
 // What peel and unpeel do to one pixel: they write the same ones.
 #![tactic(auto)]
 
-ghost use Rattle.std.specs.Prelude.{◌≡◌, true};
+ghost use Rattle.std.specs.Prelude.{◌≡◌, ℕ, true};
 ghost use Rattle.rules.specs.Literals.{0·0};
 ghost use Rattle.rules.specs.Float.{◌≼◌, float, pixel};
 ghost use Rattle.rules.specs.Reading.{gap, texel as texel_of, at};
 ghost use Rattle.rules.specs.Scene.{value, scene as scene_of};
-ghost use Rattle.rules.specs.Unpeel.{relaid};
 ghost use Rattle.plane.specs.Done.{change as change_of};
 ghost use Rattle.calls.specs.Lent.{plane_of};
-ghost use Rattle.layer_lent.specs.Lent.{lay, first_by, second_by, Inside};
-ghost use Rattle.scene_whole.specs.Rings.{SoundOver};
-ghost use Rattle.lift_pixel.specs.Works.{Framed, Given, rule_of, is_unpeel};
+ghost use Rattle.layer_lent.specs.declared.Shape.{Shape};
+ghost use Rattle.layer_lent.specs.declared.Plan.{Plan};
+ghost use Rattle.layer_lent.specs.Lent.{lay, Held, Sound, Inside};
+ghost use Rattle.lift_straight.specs.Laid.{byte_of};
+ghost use Rattle.lift_pixel.specs.Works.{Over, Framed, rule_of};
 
 use layer_lent::{Lent, Plan};
-use plane::Change;
 use rules::{Model, Scene};
 
-// What is done with a plane: the layer is taken off, or laid on at a time between two frames.
-#[derive(Clone, Copy)]
-pub enum Work {
-    Peel,
-    Unpeel,
+// What is done with a plane, by the frames that are read: the byte of a pixel that the layer shows in.
+pub trait Work: Copy {
+    // the frames lie over the plane that is worked on
+    ghost framed: { Self → Plan → Type 0 };
+
+    ghost byte: { Self → Shape → Held → (x y old : ℕ) → ℕ };
+
+    // The byte of a pixel with this model.
+    fn made<L: Lent>(self, plan: Plan, layer: L, x: usize, y: usize, model: Model, old: u8) -> u8
+        requires sound { Sound plan (L.held layer) }
+        requires frames { framed self plan }
+        requires inside { Inside plan x y }
+        requires texel { model ≡ texel_of (lay plan.shape (L.held layer)) plan.shape.plane x y }
+        ensures { result ≡ byte self plan.shape (L.held layer) x y old };
 }
 
-// Whether the layer is laid on.
-pub fn unpeels(work: Work) -> bool
-    ensures { result ≡ is_unpeel work }
-{
-    match work {
-        Work::Peel => false,
-        Work::Unpeel => true,
-    }
+// The layer is taken off.
+#[derive(Clone, Copy)]
+pub struct Peel<'f> {
+    pub raw: &'f [u8],
+}
+
+// The layer is laid on at a time between two frames.
+#[derive(Clone, Copy)]
+pub struct Unpeel<'f> {
+    pub first: &'f [u8],
+    pub second: &'f [u8],
 }
 
 // The byte of a pixel without the layer.
-fn peeled<L: Lent>(
-    plan: Plan,
-    layer: L,
-    raw: &[u8],
-    pitch: usize,
-    x: usize,
-    y: usize,
-    model: Model,
-) -> u8
-    requires { SoundOver plan (L.held layer) raw.now pitch × Inside plan x y × (model ≡ texel_of (lay plan.shape (L.held layer)) plan.shape.plane x y) }
-    ensures { result ≡ pixel (value (scene_of (lay plan.shape (L.held layer)) plan.shape.plane (plane_of raw.now pitch) (float x) (float y) true)) }
+fn peeled<L: Lent>(plan: Plan, layer: L, raw: &[u8], x: usize, y: usize, model: Model) -> u8
+    requires sound { Sound plan (L.held layer) }
+    requires frame { Over plan raw.now plan.shape.first_pitch }
+    requires inside { Inside plan x y }
+    requires texel { model ≡ texel_of (lay plan.shape (L.held layer)) plan.shape.plane x y }
+    ensures { result ≡ pixel (value (scene_of (lay plan.shape (L.held layer)) plan.shape.plane (plane_of raw.now plan.shape.first_pitch) (float x) (float y) true)) }
 {
+    let pitch = plan.shape.first_pitch;
     match scene_lift::lifted(sample::at(raw, pitch, x, y), model) {
         Scene::Lifted(shown) => float::pixel(shown),
         Scene::Raw(shown) => {
@@ -56,43 +64,44 @@ fn peeled<L: Lent>(
     }
 }
 
-// The byte of a pixel with the layer on it again.
-fn unpeeled(plan: Plan, frames: [&[u8]; 2], x: usize, y: usize, model: Model, old: u8) -> u8
-    requires { Framed plan frames × Inside plan x y }
-    ensures { result ≡ pixel (relaid model (at (first_by plan.shape frames.entry) x y) (at (second_by plan.shape frames.entry) x y) plan.shape.time (float old)) }
-{
-    let first = sample::at(frames[0], plan.shape.first_pitch, x, y);
-    let second = sample::at(frames[1], plan.shape.second_pitch, x, y);
-    float::pixel(scene_lift::relaid(model, first, second, plan.shape.time, float::of_byte(old)))
+impl Work for Peel<'_> {
+    ghost framed = { λ w p. Over p w.raw.now p.shape.first_pitch };
+
+    ghost byte = { λ w s held x y _. pixel (value (scene_of (lay s held) s.plane (plane_of w.raw.now s.first_pitch) (float x) (float y) true)) };
+
+    fn made<L: Lent>(self, plan: Plan, layer: L, x: usize, y: usize, model: Model, old: u8) -> u8 {
+        peeled(plan, layer, self.raw, x, y, model)
+    }
+}
+
+impl Work for Unpeel<'_> {
+    ghost framed = { λ w p. Framed p w.first.now w.second.now };
+
+    ghost byte = { λ w s held x y old. byte_of (texel_of (lay s held) s.plane x y) (at (plane_of w.first.now s.first_pitch) x y) (at (plane_of w.second.now s.second_pitch) x y) s.time old };
+
+    fn made<L: Lent>(self, plan: Plan, layer: L, x: usize, y: usize, model: Model, old: u8) -> u8 {
+        lift_straight::byte(plan.shape, [self.first, self.second], model, x, y, old)
+    }
 }
 
 // What is done to a pixel of a near cell.
-pub fn change<L: Lent>(
-    work: Work,
+pub fn change<W: Work, L: Lent>(
+    work: W,
     plan: Plan,
     layer: L,
-    frames: [&[u8]; 2],
     x: usize,
     y: usize,
     old: u8,
-) -> Change
-    requires { Given plan (L.held layer) frames × Inside plan x y × ((gap (lay plan.shape (L.held layer)) plan.shape.plane x y ≼ 0·0) ≡ true) }
-    ensures { result ≡ change_of (rule_of work plan.shape (L.held layer) frames.entry) x y old }
+) -> Option<u8>
+    requires sound { Sound plan (L.held layer) }
+    requires frames { W.framed work plan }
+    requires inside { Inside plan x y }
+    requires near { (gap (lay plan.shape (L.held layer)) plan.shape.plane x y ≼ 0·0) ≡ true }
+    ensures { result ≡ change_of (rule_of (W.byte work) plan.shape (L.held layer)) x y old }
 {
     let model = layer_texel::texel(plan, layer, x, y);
     if fit_model::plain(model) {
-        return Change::Keep;
+        return None;
     }
-    match work {
-        Work::Peel => Change::Put(peeled(
-            plan,
-            layer,
-            frames[0],
-            plan.shape.first_pitch,
-            x,
-            y,
-            model,
-        )),
-        Work::Unpeel => Change::Put(unpeeled(plan, frames, x, y, model, old)),
-    }
+    Some(work.made(plan, layer, x, y, model, old))
 }

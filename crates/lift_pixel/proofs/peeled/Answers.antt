@@ -9,18 +9,18 @@ use Rattle.lift_pixel.proofs.peeled.Goals as goal
 
 pub returns-in-Lifted : goal.returns-in-Lifted
 returns-in-Lifted g c =
-    let w = c.requires.0.sound.planned.wide in
-    let h = c.requires.0.sound.planned.tall in
-    let i = c.requires.1 in
+    let w = c.requires.sound.planned.wide in
+    let h = c.requires.sound.planned.tall in
+    let i = c.requires.inside in
     let e = sym (rw c.at.ensures at c.lifted.ensures) ∙ c.in-Lifted.is in
     c.pixel.ensures
-    ∙ ap pixel (scene-lifted _ _ _ (λ k. omega (arith, c.type_inv.raw k)) c.args.x c.args.y (omega arith) (omega arith) c.args.model c.requires.2 _ e)
+    ∙ ap pixel (scene-lifted _ _ _ (λ k. omega (arith, c.type_inv.raw k)) c.args.x c.args.y (omega arith) (omega arith) c.args.model c.requires.texel _ e)
 
 pub returns-in-Raw : goal.returns-in-Raw
 returns-in-Raw g c =
-    let w = c.requires.0.sound.planned.wide in
-    let h = c.requires.0.sound.planned.tall in
-    let i = c.requires.1 in
+    let w = c.requires.sound.planned.wide in
+    let h = c.requires.sound.planned.tall in
+    let i = c.requires.inside in
     let e = sym (rw c.at.ensures at c.lifted.ensures) ∙ c.in-Raw.is in
     rw (c.pixel-in-Raw.ensures, c.value.ensures, c.rings-scene.ensures)
-    (ap (λ (z : Scene). pixel (value z)) (scene_raw _ _ _ (λ k. omega (arith, c.type_inv.raw k)) c.args.x c.args.y (omega arith) (omega arith) c.args.model c.requires.2 _ e))
+    (ap (λ (z : Scene). pixel (value z)) (scene_raw _ _ _ (λ k. omega (arith, c.type_inv.raw k)) c.args.x c.args.y (omega arith) (omega arith) c.args.model c.requires.texel _ e))
