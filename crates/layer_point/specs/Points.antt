@@ -1,14 +1,14 @@
 -- A layer between its pixels, over a byte plane: what its readers ask, and the model by the columns and rows around a
 -- point.
-use Rattle.std.specs.Prelude.{◌≡◌, cond, ◌&&◌, List, ℕ, ◌+◌, ◌*◌, ◌≤◌, ◌<◌, ℤ, pos, length, get_or}
+use Rattle.std.specs.Prelude.{◌≡◌, cond, ◌&&◌, List, ℕ, ◌<◌}
 use Rattle.std.specs.Float.Ieee as Ieee
 use Rattle.rules.specs.declared.Model.{Model}
 use Rattle.rules.specs.declared.Taps.{Taps}
 use Rattle.rules.specs.Literals.{0·0}
-use Rattle.rules.specs.Reading.{luma_texel, mix_models}
+use Rattle.rules.specs.Reading.{texel, mix_models}
 use Rattle.sample.specs.Points.{PlaneFits}
 use Rattle.layer_lent.specs.declared.Plan.{Plan}
-use Rattle.layer_lent.specs.Lent.{Sound, Held}
+use Rattle.layer_lent.specs.Lent.{lay, Sound, Inside, Held}
 
 -- a layer that can be read, and a byte plane over the plane that is worked on
 pub record LiesOver (p : Plan) (held : Held) (raw : List ℕ) (pitch : ℕ) : Type 0 where
@@ -24,6 +24,11 @@ pub record Around (width height : ℕ) (across down : Taps) : Type 0 where
 
 -- ---- a model at a point, whatever the models of the pixels are
 
+-- what reads the model of each pixel of a plane
+abbrev pub Reads : Plan → Held → (pre : ℕ → ℕ → Type 0) → (post : ℕ → ℕ → Model → Type 0) → Type 0
+Reads p held pre post =
+    (x y : ℕ) → Inside p x y → pre x y × ((m : Model) → post x y m → m ≡ texel (lay p.shape held) p.shape.plane x y)
+
 -- a row of models between two columns
 unfoldable pub row_of : ((x y : ℕ) → Model) → (across : Taps) → (y : ℕ) → Model
 row_of t across y = mix_models (t across.first y) (t across.second y) across.share
@@ -34,18 +39,3 @@ point_of t across down =
     cond (Ieee.eq across.share 0·0 && Ieee.eq down.share 0·0)
     (t across.first down.first)
     (mix_models (row_of t across down.first) (row_of t across down.second) down.share)
-
--- ---- luma
-
--- all gains, then all offsets
-pub record LumaFits (l : List ℤ) (pitch shift width height : ℕ) : Type 0 where
-  pub tall : height ≤ 4096
-  pub apart : (width ≤ pitch) × (pitch ≤ 65536)
-  pub shifted : shift ≡ height * pitch
-  pub long : 2 * (pitch * height) ≤ length l
-
--- the model of a luma pixel: its offset stands `shift` after its gain
-abbrev pub luma_at : List ℤ → (pitch shift x y : ℕ) → Model
-luma_at l pitch shift x y =
-    let k = y * pitch + x in
-    luma_texel (record { 0 = get_or l k (pos 0) }) (record { 0 = get_or l (k + shift) (pos 0) })
