@@ -3,9 +3,11 @@
 
 ghost use Rattle.std.specs.Prelude.{◌≡◌};
 ghost use Rattle.rules.specs.Domain.{spans as spans_of, is_pel, motion_numbers, motion_lengths};
+ghost use Rattle.rules.specs.Refusals.{Table, first_fitting, motion_rows, number_or};
 ghost use Rattle.motion.specs.Moves.{motion_of, laid_out};
 
 use motion::Grid;
+use rules::Refusal;
 
 // From lo to hi.
 pub fn spans(lo: i32, hi: i32, n: i32) -> bool
@@ -38,4 +40,13 @@ pub fn motion_lengths(fields: [&[u16]; 4], grid: Grid) -> bool
     ensures { result ≡ motion_lengths (motion_of fields.entry grid) }
 {
     fields.iter().all(|field| plane::is_product(field.len(), grid.width, grid.height))
+}
+
+// The tests of a motion, in the order of the table.
+#[tactic(auto, unfolding(rules::specs::Refusals::first_fitting))]
+pub fn motion_refusal(fields: [&[u16]; 4], grid: Grid) -> Result<(), Refusal>
+    ensures { (rows : Table) → first_fitting (motion_rows (motion_of fields.entry grid) rows) ≡ number_or result (first_fitting rows) }
+{
+    plane::ensure(motion_lengths(fields, grid), Refusal::Length)?;
+    plane::ensure(motion_numbers(grid), Refusal::Movement)
 }

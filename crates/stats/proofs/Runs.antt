@@ -2,9 +2,8 @@
 -- Assumes nothing.
 use mathlib.Core.Path.{◌≡◌, refl}
 use mathlib.Core.List.{List, [], ◌∷◌}
-use mathlib.Core.Logic.{inl, inr}
 use mathlib.Core.Bool.{Bool, true, ◌&&◌}
-use Prim.Native.Nat.{ℕ, ◌*◌, ◌≤◌}
+use Prim.Native.Nat.{ℕ, ◌*◌}
 use native.Mathlib.Omega.{arith}
 use lib.ListN.{length, get_or}
 use lib.Ieee.{Float}
@@ -14,13 +13,12 @@ use Rattle.rules.specs.Domain.{sums_length, chroma_sums_length, is_pitch, is_pla
 use Rattle.rules.specs.Refusals.{stats_refusal}
 use Rattle.laws.proofs.Accepted.{row_right, both, Side, sizes_in, ratio_in, exact_in}
 use Rattle.plane.specs.Slices.{Slices, slice, at}
-use Rattle.stats_gather.specs.declared.Task.{Task}
-use Rattle.stats_add.specs.Added.{SixOrTwo}
-use Rattle.stats_gather.specs.Sums.{Gathers, pass_of, all_added}
+use Rattle.motion.specs.Moves.{Moves}
+use Rattle.stats_gather.specs.Sums.{Gathers}
 use Rattle.stats_refuse.specs.declared.Numbers.{Numbers}
 use Rattle.stats_refuse.specs.Call.{plane_at, stats_by}
 use Rattle.motion_limits.proofs.Accepted.{plane_in, moves_in}
-use Rattle.stats.specs.Answered.{task_of, chroma_task}
+use Rattle.stats.specs.Answered.{task_of}
 
 -- each of two, or of four
 two : (a b : Bool) → (a && (b && true)) ≡ true → (a ≡ true) × (b ≡ true)
@@ -36,11 +34,6 @@ four a b c d e =
 abbrev pub onto : (first second : Slices ℕ) → (k : ℕ) → Slices ℕ
 onto first second k = at first k ∷ (at second k ∷ [])
 
--- the pass by a task that is known
-pub by : (first second fields : Slices ℕ) (k : ℕ) (sums : List Float) {t u : Task} → t ≡ u
-    → all_added t (pass_of (onto first second k) fields t) sums ≡ all_added u (pass_of (onto first second k) fields u) sums
-by first second fields k sums e = rw e
-
 module _ (luma chroma1 chroma2 : List Float) (first second fields : Slices ℕ) (n : Numbers) where
   abbrev call : StatsCall
   call = stats_by luma chroma1 chroma2 first second fields n
@@ -53,24 +46,23 @@ module _ (luma chroma1 chroma2 : List Float) (first second fields : Slices ℕ) 
 
   -- what the three passes ask
   pub record Runs : Type 0 where
-    pub on_luma : Gathers (onto first second 0) fields (task_of n 0 6 size 1)
-    pub on_first : Gathers (onto first second 1) fields (chroma_task n 1)
-    pub on_second : Gathers (onto first second 2) fields (chroma_task n 2)
+    pub on_luma : Gathers (onto first second 0) (task_of n 0 size)
+    pub on_first : Gathers (onto first second 1) (task_of n 1 chroma_size)
+    pub on_second : Gathers (onto first second 2) (task_of n 2 chroma_size)
+    pub luma_moves : Moves fields n.grid 1
+    pub chroma_moves : Moves fields n.grid n.ratio
     pub luma_long : length luma ≡ 6 * area size
     pub first_long : length chroma1 ≡ 2 * area chroma_size
     pub second_long : length chroma2 ≡ 2 * area chroma_size
 
-  passing : (motion_lengths call.pair.motion ≡ true) × (motion_numbers call.pair.motion ≡ true)
-      → (k many : ℕ) (size : ℕ × ℕ) (ratio : ℕ) → SixOrTwo many → ratio ≤ 4 → Side size.0 → Side size.1
+  passing : (k : ℕ) (size : ℕ × ℕ) → Side size.0 → Side size.1
       → (is_pitch (get_or n.first k 0) size.0 ≡ true) × (is_pitch (get_or n.second k 0) size.0 ≡ true)
       → (is_plane (plane_at first n.first k) size ≡ true) × (is_plane (plane_at second n.second k) size ≡ true)
-      → Gathers (onto first second k) fields (task_of n k many size ratio)
-  passing t k many size ratio kind few wide tall p l =
+      → Gathers (onto first second k) (task_of n k size)
+  passing k size wide tall p l =
       record {
         first_fits = plane_in (slice first k) (get_or n.first k 0) size.0 size.1 wide tall p.0 l.0;
         second_fits = plane_in (slice second k) (get_or n.second k 0) size.0 size.1 wide tall p.1 l.1;
-        moves = moves_in fields n.grid ratio few t.0 t.1;
-        kind = kind;
       }
 
   pub runs : stats_refusal call ≡ 0 → Runs
@@ -91,9 +83,11 @@ module _ (luma chroma1 chroma2 : List Float) (first second fields : Slices ℕ) 
       let k = four (is_plane f.1 chroma_size) (is_plane f.2 chroma_size) (is_plane z.1 chroma_size) (is_plane z.2 chroma_size) (ok 5 _ refl) in
       let long = exact_in s.sums.luma s.sums.chroma (sums_length size, chroma_sums_length size s.ratio) (ok 6 _ refl) in
       record {
-        on_luma = passing t 0 6 size 1 (inl refl) (omega arith) sides.0 sides.1 p l;
-        on_first = passing t 1 2 chroma_size s.ratio (inr refl) part.few.1 part.across part.down (q.0.0, q.1.0) (k.0.0, k.1.0);
-        on_second = passing t 2 2 chroma_size s.ratio (inr refl) part.few.1 part.across part.down (q.0.1, q.1.1) (k.0.1, k.1.1);
+        on_luma = passing 0 size sides.0 sides.1 p l;
+        on_first = passing 1 chroma_size part.across part.down (q.0.0, q.1.0) (k.0.0, k.1.0);
+        on_second = passing 2 chroma_size part.across part.down (q.0.1, q.1.1) (k.0.1, k.1.1);
+        luma_moves = moves_in fields n.grid 1 (omega arith) t.0 t.1;
+        chroma_moves = moves_in fields n.grid s.ratio part.few.1 t.0 t.1;
         luma_long = long.0;
         first_long = long.1;
         second_long = long.2;

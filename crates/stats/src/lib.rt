@@ -1,33 +1,33 @@
 // Stats: one pair of frames added to the sums.
 #![tactic(auto)]
 
-ghost use Rattle.std.specs.Prelude.{◌≡◌, ◌≤◌};
+ghost use Rattle.std.specs.Prelude.{◌≡◌, ◌/◌, ◌≤◌};
 ghost use Rattle.rules.specs.Refusals.{stats_refusal};
 ghost use Rattle.stats_refuse.specs.Call.{stats_by};
-ghost use Rattle.stats.specs.Answered.{chroma_task, Added, StatsAnswered};
+ghost use Rattle.stats.specs.Answered.{task_of, Added, StatsAnswered};
 
-use rules::Answer;
+use motion::{Lattice, Motion};
+use rules::Refusal;
 use stats_gather::Task;
 use stats_refuse::Numbers;
 
-// The pass over a chroma plane, 1 or 2, of both frames.
-fn chroma(k: usize, numbers: Numbers) -> Task
+// The pass over plane k of both frames, of this size.
+fn task_of(k: usize, numbers: Numbers, width: usize, height: usize) -> Task
     requires { k ≤ 2 }
-    ensures { result ≡ chroma_task numbers k }
+    ensures { result ≡ task_of numbers k (width, height) }
 {
-    let ratio = numbers.ratio;
-    let first_pitches = numbers.first;
-    let second_pitches = numbers.second;
-    let grid = numbers.grid;
+    let Numbers {
+        pairs,
+        first,
+        second,
+        ..
+    } = numbers;
     Task {
-        many: 2,
-        pairs: numbers.pairs,
-        width: plane::divided(numbers.width, ratio),
-        height: plane::divided(numbers.height, ratio),
-        ratio,
-        first: first_pitches[k],
-        second: second_pitches[k],
-        grid,
+        pairs,
+        width,
+        height,
+        first: first[k],
+        second: second[k],
     }
 }
 
@@ -45,22 +45,25 @@ pub fn added<'f>(
     ensures { Added (stats_by luma.old chroma1.old chroma2.old first.entry second.entry fields.entry numbers)
         luma.new chroma1.new chroma2.new }
 {
-    let first_pitches = numbers.first;
-    let second_pitches = numbers.second;
-    let grid = numbers.grid;
-    let task = Task {
-        many: 6,
-        pairs: numbers.pairs,
-        width: numbers.width,
-        height: numbers.height,
-        ratio: 1,
-        first: first_pitches[0],
-        second: second_pitches[0],
+    let Numbers {
+        width,
+        height,
+        ratio,
         grid,
-    };
-    stats_gather::gather(luma, [first[0], second[0]], fields, task);
-    stats_gather::gather(chroma1, [first[1], second[1]], fields, chroma(1, numbers));
-    stats_gather::gather(chroma2, [first[2], second[2]], fields, chroma(2, numbers));
+        ..
+    } = numbers;
+    let across = plane::divided(width, ratio);
+    let down = plane::divided(height, ratio);
+    let lattice = Lattice { grid, ratio: 1 };
+    let motion = Motion { fields, lattice };
+    let task = task_of(0, numbers, width, height);
+    stats_gather::gather::<6>(luma, [first[0], second[0]], motion, task);
+    let lattice = Lattice { grid, ratio };
+    let motion = Motion { fields, lattice };
+    let task = task_of(1, numbers, across, down);
+    stats_gather::gather::<2>(chroma1, [first[1], second[1]], motion, task);
+    let task = task_of(2, numbers, across, down);
+    stats_gather::gather::<2>(chroma2, [first[2], second[2]], motion, task);
 }
 
 // Adds a pair, or refuses: the contract is the equation for both.
@@ -72,19 +75,11 @@ pub fn stats<'f>(
     second: [&'f [u8]; 3],
     fields: [&[u16]; 4],
     numbers: Numbers,
-) -> Answer
+) -> Result<(), Refusal>
     ensures { StatsAnswered (stats_by luma.old chroma1.old chroma2.old first.entry second.entry fields.entry numbers)
         luma.new chroma1.new chroma2.new result }
 {
-    let number = stats_refuse::stats_refusal(
-        luma, chroma1, chroma2, first, second, fields, numbers,
-    );
-    if number != 0 {
-        return Answer { number, count: 0 };
-    }
+    stats_refuse::stats_refusal(luma, chroma1, chroma2, first, second, fields, numbers)?;
     added(luma, chroma1, chroma2, first, second, fields, numbers);
-    Answer {
-        number: 0,
-        count: 0,
-    }
+    Ok(())
 }

@@ -8,9 +8,13 @@ use Rattle.plane.specs.Slices.{Slices, slice}
 use Rattle.motion.specs.Moves.{motion_of}
 use Rattle.stats_refuse.specs.declared.Numbers.{Numbers}
 
--- plane k of a frame
+-- the pitch of plane k of a frame
+abbrev pub pitch_at : (pitches : List ℕ) → (k : ℕ) → ℕ
+pitch_at pitches k = get_or pitches k 0
+
+-- and the plane
 abbrev pub plane_at : (frame : Slices ℕ) → (pitches : List ℕ) → (k : ℕ) → Plane
-plane_at frame pitches k = plane_of (slice frame k) (get_or pitches k 0)
+plane_at frame pitches k = plane_of (slice frame k) (pitch_at pitches k)
 
 -- the planes of two frames, and the motion between them
 abbrev pub pair_by : (first second fields : Slices ℕ) → Numbers → Pair
