@@ -1,8 +1,8 @@
 // A layer that is lent as numbers or as little-endian bytes: one body reads both.
 #![tactic(auto)]
 
-ghost use Rattle.std.specs.Prelude.{◌≡◌, ◌+◌, ◌*◌, ◌<◌, List, ℕ, ℤ, pos, length, get_or};
-ghost use Rattle.rules.specs.Host.{signed16, numbers};
+ghost use Rattle.std.specs.Prelude.{◌≡◌, ◌<◌, List, ℕ, ℤ, pos, length, get_or};
+ghost use Rattle.rules.specs.Host.{numbers};
 ghost use Rattle.plane.specs.Slices.{slice};
 ghost use Rattle.layer_lent.specs.Lent.{plan_of};
 
@@ -39,18 +39,6 @@ pub struct Plan {
     pub side: usize,
 }
 
-// Two bytes as a signed number.
-pub fn joined(low: u8, high: u8) -> i16
-    ensures { result ≡ signed16 (low + 256 * high) }
-{
-    let n = low as u16 + 256 * (high as u16);
-    if n < 32768 {
-        n as i16
-    } else {
-        -1 - ((65535 - n) as i16)
-    }
-}
-
 // Number k of a slice.
 fn at(numbers: &[i16], k: usize) -> i16
     requires { k < length numbers.now }
@@ -60,14 +48,16 @@ fn at(numbers: &[i16], k: usize) -> i16
 }
 
 // Number k of a slice of little-endian bytes.
+#[tactic(auto, using(crate::proofs::Numbers::numbers_length))]
 fn number(bytes: &[u8], k: usize) -> i16
     requires { k < length (numbers bytes.now) }
     ensures { result ≡ get_or (numbers bytes.now) k (pos 0) }
 {
-    joined(bytes[k * 2], bytes[k * 2 + 1])
+    i16::from_le_bytes([bytes[k * 2], bytes[k * 2 + 1]])
 }
 
 // How many numbers such a slice has.
+#[tactic(auto, using(crate::proofs::Numbers::numbers_length))]
 fn count(bytes: &[u8]) -> usize
     ensures { result ≡ length (numbers bytes.now) }
 {
