@@ -12,7 +12,7 @@ use Rattle.rules.specs.Forms.{Layer, Frames, Motion, plane_ratio}
 use Rattle.rules.specs.Reading.{distance, gap}
 use Rattle.rules.specs.Motion.{row_taps, column_taps}
 use Rattle.rules.specs.Render.{far, timed, reach, rendered, own_steps, seen, render_rule}
-use Rattle.plane.specs.declared.Change.TheVariants.{Keep, Put}
+use Rattle.std.specs.Prelude.{Some, None}
 use Rattle.plane.specs.Done.{change}
 use Rattle.render_choice.specs.Kept.{is_within}
 use Rattle.render_pixel.specs.Shown.{seen_by, byte_by}
@@ -27,11 +27,11 @@ use Rattle.render_rows.specs.declared.Job.{Job}
 use Rattle.render_rows.specs.Jobs.{layer_in, frames_in, motion_in, rule_in, Works, change_by, gap_of, Near}
 
 module _ (l : Layer) (plane : ℕ) (f : Frames) (ratio : ℕ) (s : Steps) (gap : Float) (algo : ℤ) (x y : ℕ) where
-  pub put_is : is_within gap (reach ratio s) ≡ true → Put (byte_by l plane f s algo x y) ≡ change_by l plane f ratio s gap algo x y
+  pub put_is : is_within gap (reach ratio s) ≡ true → Some (byte_by l plane f s algo x y) ≡ change_by l plane f ratio s gap algo x y
   unfolding change_by
   put_is t = sym (simp t)
 
-  pub keep_is : is_within gap (reach ratio s) ≡ false → Keep ≡ change_by l plane f ratio s gap algo x y
+  pub keep_is : is_within gap (reach ratio s) ≡ false → None ≡ change_by l plane f ratio s gap algo x y
   unfolding change_by
   keep_is t = sym (simp t)
 
@@ -49,27 +49,27 @@ module _ (l : Layer) (plane : ℕ) (f : Frames) (m : Motion) (algo : ℤ) (x y :
 
 -- ---- by the stored distance, and by the columns that are carried
 
-module _ (j : Job) (held : Held) (frames fields : Bytes) (w : Works j held frames fields) where
+module _ (j : Job) (held : Held) (frames : Bytes) (w : Works j held frames) where
   -- pixels with one stored distance lie within `far`, or beyond it
   gap-far : (x y : ℕ) (d : ℤ) (t : Bool) → distance (layer_in j held) j.plan.shape.plane x y ≡ d → is_within (gap_of d) j.far ≡ t
-      → is_within (gap (layer_in j held) j.plan.shape.plane x y) (far (motion_in j fields)) ≡ t
+      → is_within (gap (layer_in j held) j.plan.shape.plane x y) (far (motion_in j)) ≡ t
   unfolding gap
   gap-far x y d t e h = rw (e, ← w.far_is) h
 
   pub pixel_is : (x y old : ℕ) (d : ℤ) (down : Taps) (c : Carried) (t s : Steps) → Near j (layer_in j held) y x (x + 1) d
-      → down ≡ row_taps (motion_in j fields) j.plan.span y
-      → Carries (motion_in j fields) j.plan.span down (column_taps (motion_in j fields) j.plan.span x) c → t ≡ mixed_steps c → s ≡ timed j.plan.shape.time t
+      → down ≡ row_taps (motion_in j) j.motion.lattice.ratio y
+      → Carries (motion_in j) j.motion.lattice.ratio down (column_taps (motion_in j) j.motion.lattice.ratio x) c → t ≡ mixed_steps c → s ≡ timed j.plan.shape.time t
       → change_by (layer_in j held) j.plan.shape.plane (frames_in j frames) j.plan.span s (gap (layer_in j held) j.plan.shape.plane x y) j.algo x y
-      ≡ change (rule_in j held frames fields) x y old
+      ≡ change (rule_in j held frames) x y old
   unfolding own_steps
   pixel_is x y old d down c t s near rows carries mixed so =
-      let m = motion_in j fields in
-      let r = span_is j.plan w.framed.first_ready.lies.sound.planned in
-      let own = so ∙ ap (timed j.plan.shape.time) (mixed ∙ carried_steps m j.plan.span x y c (rw rows at carries)) in
-      rw r (change_is (layer_in j held) j.plan.shape.plane (frames_in j frames) m j.algo x y old s (rw r at own) (gap-far x y d true (near.one x (omega arith) (omega arith)) near.near))
+      let m = motion_in j in
+      let r = span_is j.plan w.framed.first_ready.sound.planned in
+      let own = so ∙ ap (timed j.plan.shape.time) (mixed ∙ carried_steps m j.motion.lattice.ratio x y c (rw rows at carries)) in
+      rw r (change_is (layer_in j held) j.plan.shape.plane (frames_in j frames) m j.algo x y old s (rw (w.span, r) at own) (gap-far x y d true (near.one x (omega arith) (omega arith)) near.near))
 
   pub far_cell : (y from to : ℕ) (d : ℤ) → ((k : ℕ) → from ≤ k → k < to → distance (layer_in j held) j.plan.shape.plane k y ≡ d)
-      → is_within (gap_of d) j.far ≡ false → (k : ℕ) → from ≤ k → k < to → (rule_in j held frames fields).writes k y ≡ false
+      → is_within (gap_of d) j.far ≡ false → (k : ℕ) → from ≤ k → k < to → (rule_in j held frames).writes k y ≡ false
   far_cell y from to d one t k low high = far_is _ _ _ _ _ k y (gap-far k y d false (one k low high) t)
 
 -- a part of a part

@@ -5,7 +5,7 @@ use Prim.Native.Nat.{ℕ, ◌+◌, ◌-◌, ◌*◌, ◌≤◌, ◌<◌}
 use native.Mathlib.Omega.{arith}
 use lib.ListN.{length, get_or}
 use Rattle.rules.specs.Forms.{Rule}
-use Rattle.plane.specs.declared.Change.{Change}
+use Rattle.std.specs.Prelude.{Option}
 use Rattle.plane.specs.Done.{change, Stamped, RowDone}
 use Rattle.plane.proofs.Laws.{row_none}
 use Rattle.layer_lent.specs.declared.Plan.{Plan}
@@ -13,7 +13,7 @@ use Rattle.lift_rows.specs.Rows.{RunAsks, RowAsks, RowOn}
 use Rattle.lift_rows.proofs.Cells.{run_none, run_more}
 
 -- one pixel
-pub run_one : {rule : Rule} {pitch y x : ℕ} {bytes after : List ℕ} {n r : ℕ} {d : Change} → d ≡ change rule x y (get_or bytes (y * pitch + x) 0)
+pub run_one : {rule : Rule} {pitch y x : ℕ} {bytes after : List ℕ} {n r : ℕ} {d : Option ℕ} → d ≡ change rule x y (get_or bytes (y * pitch + x) 0)
     → Stamped bytes (y * pitch + x) d n after r → RowOn rule pitch y x (x + 1) n bytes after r
 run_one e s = run_more (omega arith) (run_none _ _ _ _ _ _) e s
 

@@ -1,5 +1,4 @@
 // The rows of a frame made between two others, with the layer laid on: row by row, in a row cell by cell.
-// The layer is lent as numbers; `bytes` is for its readers, which do not look at it then.
 #![tactic(auto)]
 
 ghost use Rattle.std.specs.Prelude.{◌≡◌};
@@ -10,18 +9,26 @@ ghost use Rattle.lift_rows.specs.Rows.{RowAsks, RowsAsk};
 ghost use Rattle.render_rows.specs.Jobs.{distance_in, Works, change_in, only, PieceAsks, Holding, PieceHolds, PieceNear, PieceDone, RowIn, RowsIn};
 
 use layer_lent::{Lent, Plan};
-use motion::{Carried, Grid};
-use plane::Change;
+use motion::{Carried, Motion};
 use render_pixel::Spot;
 use rules::{Steps, Taps};
 
-// What a call is lent besides slices, and what follows from it.
+// What a call is lent besides its layer and its frames, and what follows from it.
 #[derive(Clone, Copy)]
-pub struct Job {
+pub struct Job<'m> {
     pub algo: i32,
     pub far: f32,
     pub plan: Plan,
-    pub grid: Grid,
+    pub motion: Motion<'m>,
+}
+
+impl Job<'_> {
+    // Which frame is preferred.
+    fn choice(self) -> i32
+        ensures { result ≡ self.entry.algo }
+    {
+        self.algo
+    }
 }
 
 // What is carried along a row: the count, and the columns of the last pixel's motion.
@@ -29,14 +36,6 @@ pub struct Job {
 pub struct Run {
     pub count: usize,
     pub carried: Carried,
-}
-
-// A pixel, and the grid's rows around it.
-#[derive(Clone, Copy)]
-struct Place {
-    x: usize,
-    y: usize,
-    down: Taps,
 }
 
 // The pixels of a row from a column to another, and the grid's rows around it.
@@ -56,52 +55,44 @@ fn render_change<L: Lent>(
     steps: Steps,
     distance: i16,
     spot: Spot,
-) -> Change
-    requires { Framed job.plan (L.held layer) frames × Inside job.plan spot.x spot.y × (distance ≡ distance_in job (L.held layer) spot.x spot.y) }
-    ensures { result ≡ change_in job (L.held layer) frames.entry steps spot.x spot.y }
+) -> Option<u8>
+    requires framed { Framed job.plan (L.held layer) frames }
+    requires inside { Inside job.plan spot.x spot.y }
+    requires distance { distance ≡ distance_in job (L.held layer) spot.x spot.y }
+    ensures { result ≡ change_in job.entry (L.held layer) frames.entry steps spot.x spot.y }
 {
     let plan = job.plan;
     if render_choice::reached(layer_cell::gap(distance), plan.span, steps) {
         let near = layer_cell::near(distance);
-        Change::Put(render_pixel::composed(
-            plan, layer, frames, steps, near, job.algo, spot,
-        ))
+        let algo = job.choice();
+        Some(render_pixel::composed(plan, layer, frames, steps, near, algo, spot))
     } else {
-        Change::Keep
+        None
     }
 }
 
-// One pixel.
+// One pixel, as a piece of its row.
 fn render_pixel<L: Lent>(
     output: &mut [u8],
     job: Job,
     layer: L,
     frames: [&[u8]; 2],
-    fields: [&[u16]; 4],
     run: Run,
     distance: i16,
-    place: Place,
+    down: Taps,
+    spot: Spot,
 ) -> Run
-    requires { Works job (L.held layer) frames fields × PieceAsks job output.old (only place) run.count
-        × PieceHolds job fields (only place) run × PieceNear job (L.held layer) (only place) distance }
-    ensures { PieceDone job (L.held layer) frames.entry fields.entry (only place) run.count output.old output.new result }
+    requires works { Works job (L.held layer) frames }
+    requires room { PieceAsks job output.old (only down spot) run.count }
+    requires holds { PieceHolds job (only down spot) run }
+    requires near { PieceNear job (L.held layer) (only down spot) distance }
+    ensures { PieceDone job.entry (L.held layer) frames.entry (only down spot) run.count output.old output.new result }
 {
     let plan = job.plan;
-    let carried = motion::carry(
-        fields,
-        job.grid,
-        plan.span,
-        place.down,
-        run.carried,
-        place.x,
-    );
+    let carried = job.motion.carry(down, run.carried, spot.x);
     let steps = render_choice::timed(plan.shape.time, motion::steps_of(carried));
-    let spot = Spot {
-        x: place.x,
-        y: place.y,
-    };
     let change = render_change(job, layer, frames, steps, distance, spot);
-    let k = plane::place(place.y, plan.shape.output_pitch, place.x);
+    let k = plane::place(spot.y, plan.shape.output_pitch, spot.x);
     let count = plane::stamp(output, k, change, run.count);
     Run { count, carried }
 }
@@ -112,27 +103,20 @@ fn render_run<L: Lent>(
     job: Job,
     layer: L,
     frames: [&[u8]; 2],
-    fields: [&[u16]; 4],
     run: Run,
     distance: i16,
     piece: Piece,
 ) -> Run
-    requires { Works job (L.held layer) frames fields × PieceAsks job output.old piece run.count × PieceHolds job fields piece run × PieceNear job (L.held layer) piece distance }
-    ensures { PieceDone job (L.held layer) frames.entry fields.entry piece run.count output.old output.new result }
+    requires works { Works job (L.held layer) frames }
+    requires room { PieceAsks job output.old piece run.count }
+    requires holds { PieceHolds job piece run }
+    requires near { PieceNear job (L.held layer) piece distance }
+    ensures { PieceDone job.entry (L.held layer) frames.entry piece run.count output.old output.new result }
 {
     let mut last = run;
-    let mut x = piece.from;
-    while x < piece.to {
-        let down = piece.down;
-        let place = Place {
-            x,
-            y: piece.y,
-            down,
-        };
-        last = render_pixel(
-            output, job, layer, frames, fields, last, distance, place,
-        );
-        x += 1;
+    for x in piece.from..piece.to {
+        let spot = Spot { x, y: piece.y };
+        last = render_pixel(output, job, layer, frames, last, distance, piece.down, spot);
     }
     last
 }
@@ -143,20 +127,18 @@ fn render_cell<L: Lent>(
     job: Job,
     layer: L,
     frames: [&[u8]; 2],
-    fields: [&[u16]; 4],
     run: Run,
     piece: Piece,
 ) -> Run
-    requires { Works job (L.held layer) frames fields × PieceAsks job output.old piece run.count
-        × PieceHolds job fields piece run × CellEnd piece.from job.plan.side job.plan.across piece.to }
-    ensures { PieceDone job (L.held layer) frames.entry fields.entry piece run.count output.old output.new result }
+    requires works { Works job (L.held layer) frames }
+    requires room { PieceAsks job output.old piece run.count }
+    requires holds { PieceHolds job piece run }
+    requires cell { CellEnd piece.from job.plan.side job.plan.across piece.to }
+    ensures { PieceDone job.entry (L.held layer) frames.entry piece run.count output.old output.new result }
 {
-    let plan = job.plan;
-    let distance = layer_cell::distance(plan, layer, piece.from, piece.y);
+    let distance = layer_cell::distance(job.plan, layer, piece.from, piece.y);
     if render_choice::within(layer_cell::gap(distance), job.far) {
-        render_run(
-            output, job, layer, frames, fields, run, distance, piece,
-        )
+        render_run(output, job, layer, frames, run, distance, piece)
     } else {
         run
     }
@@ -168,13 +150,14 @@ fn render_cells<L: Lent>(
     job: Job,
     layer: L,
     frames: [&[u8]; 2],
-    fields: [&[u16]; 4],
     down: Taps,
     start: Run,
     y: usize,
 ) -> usize
-    requires { Works job (L.held layer) frames fields × RowAsks job.plan output.old y start.count × Holding job fields y down start }
-    ensures { RowIn job (L.held layer) frames.entry fields.entry y start.count output.old output.new result }
+    requires works { Works job (L.held layer) frames }
+    requires room { RowAsks job.plan output.old y start.count }
+    requires holds { Holding job y down start }
+    ensures { RowIn job.entry (L.held layer) frames.entry y start.count output.old output.new result }
 {
     let plan = job.plan;
     let mut run = start;
@@ -187,7 +170,7 @@ fn render_cells<L: Lent>(
             from: x,
             to: end,
         };
-        run = render_cell(output, job, layer, frames, fields, run, piece);
+        run = render_cell(output, job, layer, frames, run, piece);
         x = end;
     }
     run.count
@@ -199,41 +182,39 @@ fn render_row<L: Lent>(
     job: Job,
     layer: L,
     frames: [&[u8]; 2],
-    fields: [&[u16]; 4],
     count: usize,
     y: usize,
 ) -> usize
-    requires { Works job (L.held layer) frames fields × RowAsks job.plan output.old y count }
-    ensures { RowIn job (L.held layer) frames.entry fields.entry y count output.old output.new result }
+    requires works { Works job (L.held layer) frames }
+    requires room { RowAsks job.plan output.old y count }
+    ensures { RowIn job.entry (L.held layer) frames.entry y count output.old output.new result }
 {
-    let plan = job.plan;
-    let grid = job.grid;
-    let down = motion::row_taps(grid, plan.span, y);
-    let across = motion::column_taps(grid, plan.span, 0);
+    let Motion { fields, lattice } = job.motion;
+    let down = lattice.row_taps(y);
+    let across = lattice.column_taps(0);
     let carried = motion::around(
-        fields[0], fields[1], fields[2], fields[3], grid, plan.span, down, across,
+        fields[0],
+        fields[1],
+        fields[2],
+        fields[3],
+        lattice.grid,
+        lattice.ratio,
+        down,
+        across,
     );
     let start = Run { count, carried };
-    render_cells(output, job, layer, frames, fields, down, start, y)
+    render_cells(output, job, layer, frames, down, start, y)
 }
 
 // All rows.
-pub fn render_rows<L: Lent>(
-    output: &mut [u8],
-    job: Job,
-    layer: L,
-    frames: [&[u8]; 2],
-    fields: [&[u16]; 4],
-) -> usize
-    requires { Works job (L.held layer) frames fields × RowsAsk job.plan output.old }
-    ensures { RowsIn job (L.held layer) frames.entry fields.entry output.old output.new result }
+pub fn render_rows<L: Lent>(output: &mut [u8], job: Job, layer: L, frames: [&[u8]; 2]) -> usize
+    requires works { Works job (L.held layer) frames }
+    requires room { RowsAsk job.plan output.old }
+    ensures { RowsIn job.entry (L.held layer) frames.entry output.old output.new result }
 {
-    let plan = job.plan;
     let mut count = 0;
-    let mut y = 0;
-    while y < plan.down {
-        count = render_row(output, job, layer, frames, fields, count, y);
-        y += 1;
+    for y in 0..job.plan.down {
+        count = render_row(output, job, layer, frames, count, y);
     }
     count
 }

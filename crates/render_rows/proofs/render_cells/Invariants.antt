@@ -7,8 +7,8 @@ use Rattle.render_rows.proofs.render_cells.Given as goal
 
 abbrev pub invariant-loop-x : goal.invariant-loop-x
 invariant-loop-x g l =
-    RunDone (rule_in l.job (g.L.Lent.held l.layer) l.frames l.fields) l.job.plan.shape.output_pitch l.y 0 l.x (motion_in l.job l.fields)
-    l.job.plan.span l.down l.initial.run.count l.initial.output l.output l.run
+    RunDone (rule_in l.job (g.L.Lent.held l.layer) l.frames) l.job.plan.shape.output_pitch l.y 0 l.x (motion_in l.job)
+    l.job.motion.lattice.ratio l.down l.initial.run.count l.initial.output l.output l.run
     × (l.x ≤ l.job.plan.across) × (length l.output ≡ length l.initial.output)
 
 abbrev pub decreases-loop-x : goal.decreases-loop-x

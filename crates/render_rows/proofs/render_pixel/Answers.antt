@@ -7,8 +7,8 @@ use Rattle.render_rows.proofs.render_pixel.Goals as goal
 pub returns : goal.returns
 returns g c =
     let a = c.args in
-    let e = pixel_is a.job (g.L.Lent.held a.layer) a.frames a.fields c.requires.0 a.place.x a.place.y _ a.distance a.place.down
-    c.carry-carried.result c.steps_of.result c.timed-steps.result c.requires.3 c.requires.2.rows.is c.carry-carried.ensures
+    let e = pixel_is a.job (g.L.Lent.held a.layer) a.frames c.requires.works a.spot.x a.spot.y _ a.distance a.down
+    c.carry-carried.result c.steps_of.result c.timed-steps.result c.requires.near c.requires.holds.rows.is c.carry-carried.ensures
     c.steps_of.ensures c.timed-steps.ensures in
     record {
       row = run_one (c.render_change-change.ensures ∙ e) (rw c.place-k.ensures at c.stamp-count.ensures);

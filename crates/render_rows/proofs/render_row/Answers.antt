@@ -5,12 +5,13 @@ use Rattle.render_rows.proofs.render_row.Goals as goal
 
 pub render_cells-requires : goal.render_cells-requires
 render_cells-requires g c =
-    let j = c.args.job in
-    let rows = c.row_taps-down.ensures in (
-      c.requires.0,
-      c.requires.1,
-      record {
-        rows = record { is = rows.is ∙ same_rows c.args.fields j.grid j.plan.span c.args.y; first_in = rows.first_in; second_in = rows.second_in };
+    let m = c.args.job.motion in
+    let rows = c.row_taps-down.ensures in
+    record {
+      works = c.requires.works;
+      room = c.requires.room;
+      holds = record {
+        rows = record { is = rows.is ∙ same_rows m.fields m.lattice.grid m.lattice.ratio c.args.y; first_in = rows.first_in; second_in = rows.second_in };
         holds = c.around-carried.ensures.holds;
-      },
-    )
+      };
+    }
