@@ -10,10 +10,6 @@ use Rattle.rules.specs.Domain.{are_sizes, is_step, are_steps}
 use Rattle.laws.proofs.Accepted.{both, sizes_in}
 use Rattle.still_cells.specs.Cells.{PlaneCells}
 
--- both steps are these
-pub steps_are : (a d m n : ℕ) → (eqb a m && eqb d n) ≡ true → (a ≡ m) × (d ≡ n)
-steps_are a d m n e = let t = both (eqb a m) (eqb d n) e in (eqb-true a m t.0, eqb-true d n t.1)
-
 step_in : (side whole : ℕ) → is_step side whole ≡ true → (side * (whole / side) ≡ whole) × (1 ≤ whole / side) × (whole / side ≤ 8)
 step_in side whole e =
     let q = whole / side in

@@ -10,7 +10,9 @@ use lib.Dec.{eqb}
 use lib.ListN.{length, set}
 use lib.Seq.{get_or-set_same, get_or-set_other}
 use Rattle.rules.specs.Reading.{after}
-use Rattle.still_pass.proofs.Tables.{row_none, row_more, rows_none, rows_more, one_pixel}
+use Rattle.still_pass.proofs.Pass.{row_none, rows_none, rows_more}
+use Rattle.still_pass.proofs.Tables.{entry_more, one_pixel}
+use Rattle.still_pass.specs.Table.{store}
 use Rattle.still_corner.specs.declared.Column.{Column}
 use Rattle.still_corner.specs.Corner.{full_by, still_by, both_bits, column_of, mark_of, is_odd, Holds, RowMarked, RowsMarked}
 
@@ -49,14 +51,14 @@ module _ (same : (x y : ℕ) → Bool) (size : ℕ × ℕ) (x y : ℕ) (left : x
   pub row_marked : (before list : List ℕ) (v : ℕ) → RowMarked same size y x before list → y * size.0 + x < length list → v ≡ both_bits same size x y
       → RowMarked same size y (x + 1) before (set list (y * size.0 + x) v)
   row_marked before list v done room e =
-      record { stored = row_more v done.stored e; holds = rw e (holds_more list done.holds room) }
+      record { stored = entry_more _ _ v done.stored e; holds = rw e (holds_more list done.holds room) }
 
 module _ (same : (x y : ℕ) → Bool) (size : ℕ × ℕ) where
   pub none_marked : (y : ℕ) (list : List ℕ) → Holds same size list → RowMarked same size y 0 list list
-  none_marked y list h = record { stored = row_none size.0 (both_bits same size) y list; holds = h }
+  none_marked y list h = record { stored = row_none (store size.0 (both_bits same size)) y list; holds = h }
 
   pub no_row : (list : List ℕ) → Holds same size list → RowsMarked same size 0 list list
-  no_row list h = record { stored = rows_none size.0 (both_bits same size) list; holds = h }
+  no_row list h = record { stored = rows_none (store size.0 (both_bits same size)) size.0 list; holds = h }
 
   pub rows_marked : (y : ℕ) (before list after : List ℕ) → RowsMarked same size y before list → RowMarked same size y size.0 list after
       → RowsMarked same size (y + 1) before after

@@ -37,9 +37,6 @@ row_in {pitch = pitch} {y} {size} p below =
 pub plane_as_long : {bytes other : List ℕ} {pitch : ℕ} {size : ℕ × ℕ} → PlaneIn bytes pitch size → length other ≡ length bytes → PlaneIn other pitch size
 plane_as_long p e = record { near = p.near; apart = p.apart; inside = omega (arith, p.inside) }
 
-pub row_as_long : {bytes other : List ℕ} {pitch width y : ℕ} → RowIn bytes pitch width y → length other ≡ length bytes → RowIn other pitch width y
-row_as_long p e = record { near = p.near; apart = p.apart; inside = omega (arith, p.inside) }
-
 -- every place of a plane lies within its bytes
 pub all_in : {bytes : List ℕ} {pitch : ℕ} {size : ℕ × ℕ} → PlaneIn bytes pitch size → (k : ℕ) → k < (size.1 - 1) * pitch + size.0 → k < length bytes
 all_in p k below = omega (arith, p.inside)

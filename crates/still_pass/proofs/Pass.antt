@@ -11,7 +11,8 @@ use Rattle.rules.specs.Refusals.{number_of}
 use Rattle.rules.specs.declared.Refusal.{Refusal}
 use Rattle.std.specs.Prelude.{Ok, Err}
 use Rattle.laws.proofs.Answered.{stays, goes}
-use Rattle.still_pass.specs.Pass.{put, RowPainted, RowsPainted, Passed}
+use Rattle.calls.specs.Lent.{plane_of}
+use Rattle.still_pass.specs.Pass.{put, RowScanned, RowsScanned, RowPainted, RowsPainted, Passed}
 
 -- a pixel that the rule does not write is stored as it was
 put-stroke : (rule : Rule) (pitch x y : ℕ) (bytes : List ℕ)
@@ -23,28 +24,34 @@ put-stroke rule pitch x y bytes = go (rule.writes x y) (rule.byte x y (get_or by
     go true v = refl
     go false v = set-get_or bytes (y * pitch + x) 0
 
--- no pixel yet
-pub row_none : (rule : Rule) (pitch y : ℕ) (bytes : List ℕ) → RowPainted rule pitch y 0 bytes bytes
-unfolding turns scan_row
-row_none rule pitch y bytes = record { bytes = refl }
+-- no pixel yet, and no row
+module _ {A : Type 0} (step : (x y : ℕ) → A → A) where
+  pub row_none : (y : ℕ) (start : A) → RowScanned step y 0 start start
+  unfolding turns scan_row
+  row_none y start = record { done = refl }
 
--- one pixel more
-pub row_more : {rule : Rule} {pitch y x : ℕ} {before bytes : List ℕ} (b : ℕ) → RowPainted rule pitch y x before bytes
-    → b ≡ put rule x y (get_or bytes (y * pitch + x) 0) → RowPainted rule pitch y (x + 1) before (set bytes (y * pitch + x) b)
-unfolding turns scan_row
-row_more {rule} {pitch} {y} {x} {bytes = bytes} b done e =
-    record { bytes = ap (λ (v : ℕ). set bytes (y * pitch + x) v) e ∙ put-stroke rule pitch x y bytes ∙ simp (done.bytes, add-one) }
-
--- no row yet
-pub rows_none : (rule : Rule) (pitch width : ℕ) (bytes : List ℕ) → RowsPainted rule pitch width 0 bytes bytes
-unfolding turns scan painted
-rows_none rule pitch width bytes = record { bytes = refl }
+  pub rows_none : (width : ℕ) (start : A) → RowsScanned step width 0 start start
+  unfolding turns scan
+  rows_none width start = record { done = refl }
 
 -- one row more
-pub rows_more : {rule : Rule} {pitch width y : ℕ} {before bytes after : List ℕ}
-    → RowsPainted rule pitch width y before bytes → RowPainted rule pitch y width bytes after → RowsPainted rule pitch width (y + 1) before after
-unfolding turns scan painted
-rows_more done row = record { bytes = simp (row.bytes, done.bytes, add-one) }
+pub rows_more : {A : Type 0} {step : (x y : ℕ) → A → A} {width y : ℕ} {before list after : A}
+    → RowsScanned step width y before list → RowScanned step y width list after → RowsScanned step width (y + 1) before after
+unfolding turns scan
+rows_more so row = record { done = simp (row.done, so.done, add-one) }
+
+-- one pixel more
+pub row_more : (rule : Rule) (pitch : ℕ) {y x : ℕ} {before bytes : List ℕ} (b : ℕ) → RowPainted rule pitch y x before bytes
+    → b ≡ put rule x y (get_or bytes (y * pitch + x) 0) → RowPainted rule pitch y (x + 1) before (set bytes (y * pitch + x) b)
+unfolding turns scan_row
+row_more rule pitch {y} {x} {bytes = bytes} b so e =
+    record { done = ap (λ (v : ℕ). set bytes (y * pitch + x) v) e ∙ put-stroke rule pitch x y bytes ∙ simp (so.done, add-one) }
+
+-- all rows are the plane that the rule paints
+pub painted_is : (rule : Rule) (pitch : ℕ) {width height : ℕ} {before after : List ℕ} → RowsPainted rule pitch width height before after
+    → after ≡ painted rule (width, height) (plane_of before pitch)
+unfolding painted
+painted_is rule pitch so = so.done
 
 -- ---- a call, by its number
 

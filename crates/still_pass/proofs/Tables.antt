@@ -13,26 +13,11 @@ use Rattle.laws.specs.Filled.{filled}
 use Rattle.laws.proofs.Filled.{filled_all}
 use Rattle.still_pass.specs.Table.{store, RowStored, RowsStored}
 
--- ---- a pass, entry by entry and row by row
-
-module _ {A : Type 0} (width : ℕ) (entry : (x y : ℕ) → A) where
-  pub row_none : (y : ℕ) (list : List A) → RowStored width entry y 0 list list
-  unfolding turns scan_row
-  row_none y list = record { list = refl }
-
-  pub rows_none : (list : List A) → RowsStored width entry 0 list list
-  unfolding turns scan
-  rows_none list = record { list = refl }
-
-pub row_more : {A : Type 0} {width : ℕ} {entry : (x y : ℕ) → A} {y x : ℕ} {before list : List A} (v : A)
+-- one entry more
+pub entry_more : {A : Type 0} (width : ℕ) (entry : (x y : ℕ) → A) {y x : ℕ} {before list : List A} (v : A)
     → RowStored width entry y x before list → v ≡ entry x y → RowStored width entry y (x + 1) before (set list (y * width + x) v)
-unfolding turns scan_row
-row_more v done e = record { list = simp (e, done.list, add-one) }
-
-pub rows_more : {A : Type 0} {width : ℕ} {entry : (x y : ℕ) → A} {y : ℕ} {before list after : List A}
-    → RowsStored width entry y before list → RowStored width entry y width list after → RowsStored width entry (y + 1) before after
-unfolding turns scan
-rows_more done row = record { list = simp (row.list, done.list, add-one) }
+unfolding turns scan_row store
+entry_more width entry v so e = record { done = simp (e, so.done, add-one) }
 
 -- two pixels with one place are one pixel
 pub one_pixel : (width x y i j : ℕ) → x < width → i < width → y * width + x ≡ j * width + i → (x ≡ i) × (y ≡ j)
@@ -47,20 +32,20 @@ module _ {A : Type 0} (width : ℕ) (entry : (x y : ℕ) → A) where
   flat k = entry (k % width) (k / width)
 
   row_flat : (y n : ℕ) (list : List A) → n ≤ width → scan_row (store width entry) y n (filled (y * width) flat list) ≡ filled (y * width + n) flat list
-  unfolding turns scan_row filled
+  unfolding turns scan_row filled store
   row_flat y zero list h = rw (add-zero)
   row_flat y (suc n) list h =
       let inside : n < width = h in
       rw (row_flat y n list (omega arith), add-suc (y * width) n, digits_mod y inside, digits_div y inside)
 
   rows_flat : (height : ℕ) (list : List A) → scan (store width entry) (width, height) list ≡ filled (height * width) flat list
-  unfolding turns scan filled
+  unfolding turns scan filled store
   rows_flat zero list = rw zero-mul
   rows_flat (suc height) list = rw (suc-mul height width, rows_flat height list) (row_flat height width list (omega arith))
 
-  module _ (height : ℕ) (before after : List A) (done : RowsStored width entry height before after) (long : length before ≡ width * height) where
+  module _ (height : ℕ) (before after : List A) (so : RowsStored width entry height before after) (long : length before ≡ width * height) where
     stored : after ≡ filled (width * height) flat before
-    stored = done.list ∙ rows_flat height before ∙ rw (mul_comm height width)
+    stored = so.done ∙ rows_flat height before ∙ rw (mul_comm height width)
 
     -- the law: what is left is the table
     pub table : after ≡ tabulate (width * height) flat

@@ -15,9 +15,3 @@ pub ruled_put : (writes : (sum cells : ℕ) → Bool) (byte : (k old sum cells :
     → r ≡ cond (writes sum cells) (byte k old sum cells) old → r ≡ put (ruled writes byte mask n across down) x y old
 unfolding put ruled
 ruled_put writes byte mask n across down x y old p s c e = e ∙ rw (p, s, c)
-
--- a pixel of row y is one of the plane's
-pub row_reads : (reads : ℕ → Type 0) (n : Numbers) (y : ℕ) → Reads reads n → y < n.height → (x : ℕ) → x < n.width → reads (y * n.pitch + x)
-row_reads reads n y all below x inside =
-    let up : y ≤ n.height - 1 = omega arith in
-    all (y * n.pitch + x) (omega (arith, mul-le-mul_right n.pitch up))

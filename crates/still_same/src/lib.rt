@@ -82,7 +82,7 @@ fn same_at(frames: Frames, settings: Settings, x: usize, right: usize, y: usize,
 }
 
 // One row. The last column is its own right neighbour.
-#[tactic(auto, using(still_pass::proofs::Tables::row_none, still_pass::proofs::Tables::row_more, crate::proofs::Rows::same_here))]
+#[tactic(auto, using(still_pass::proofs::Pass::row_none, still_pass::proofs::Tables::entry_more, crate::proofs::Rows::same_here))]
 fn same_row(still: &mut [u8], frames: Frames, settings: Settings, y: usize)
     requires room { RowIn still.old frames.width frames.width y }
     requires row { y < frames.height }
@@ -99,7 +99,7 @@ fn same_row(still: &mut [u8], frames: Frames, settings: Settings, y: usize)
 }
 
 // The rows, one after the other.
-#[tactic(auto, using(still_pass::proofs::Tables::rows_none))]
+#[tactic(auto, using(still_pass::proofs::Pass::rows_none))]
 pub fn same_rows(still: &mut [u8], frames: Frames, settings: Settings)
     requires { PlaneIn still.old frames.width (frames.width, frames.height) }
     ensures { let f = frames.entry in RowsStored f.width (same_plane f.first.now f.second.now f.pitch f.width f.height settings) f.height still.old still.new }

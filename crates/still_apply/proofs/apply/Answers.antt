@@ -1,7 +1,7 @@
 -- What is asked of the pass follows from the tests, and its rule by these steps is apply's.
 use mathlib.Core.Path.{sym}
 use Rattle.std.proofs.lemmas.Result.{err_from_is_err_and}
-use Rattle.still_pass.proofs.Pass.{refused, ran}
+use Rattle.still_pass.proofs.Pass.{refused, ran, painted_is}
 use Rattle.still_pass.proofs.Accepted.{all_in}
 use Rattle.still_apply.proofs.Runs.{rule_is, runs}
 use Rattle.still_apply.proofs.apply.Goals as goal
@@ -23,4 +23,4 @@ returns c =
     let a = c.args in
     let f = a.frames.now in
     ran _ _ _ _ c.in_ok-tested.ensures
-    (rw (c.steps_of-steps.ensures, ← rule_is a.output.now f.first.now f.second.now a.mask.now f.time a.numbers) at c.pass.ensures.bytes)
+    (rw (c.steps_of-steps.ensures, ← rule_is a.output.now f.first.now f.second.now a.mask.now f.time a.numbers) at (painted_is _ _ c.pass.ensures))

@@ -1,7 +1,7 @@
 -- What is asked of the pass follows from the tests, and its rule by these steps is hold's.
 use mathlib.Core.Path.{sym}
 use Rattle.std.proofs.lemmas.Result.{err_from_is_err_and}
-use Rattle.still_pass.proofs.Pass.{refused, ran}
+use Rattle.still_pass.proofs.Pass.{refused, ran, painted_is}
 use Rattle.still_pass.proofs.Accepted.{all_in}
 use Rattle.still_hold.proofs.Runs.{rule_is, runs}
 use Rattle.still_hold.proofs.hold.Goals as goal
@@ -21,4 +21,4 @@ pub returns : goal.returns
 returns c =
     let a = c.args in
     ran _ _ _ _ c.in_ok-tested.ensures
-    (rw (c.steps_of-steps.ensures, ← rule_is a.output.now a.held.now a.mask.now a.numbers) at c.pass.ensures.bytes)
+    (rw (c.steps_of-steps.ensures, ← rule_is a.output.now a.held.now a.mask.now a.numbers) at (painted_is _ _ c.pass.ensures))

@@ -1,5 +1,5 @@
 -- One row more.
-use Rattle.still_pass.proofs.Tables.{rows_more}
+use Rattle.still_pass.proofs.Pass.{rows_more}
 use Rattle.still_same.proofs.same_rows.Goals as goal
 
 pub loop-y-preserved : goal.loop-y-preserved
