@@ -24,4 +24,13 @@ plane_cells m size s e =
     let t = both (is_step size.0 m.width) (is_step (m.width * size.1) (length m.bytes)) e in
     let across = step_in size.0 m.width t.0 in
     let down = step_in (m.width * size.1) (length m.bytes) t.1 in
-    record { near = (z.0.1, z.1.1); some = (across.1, down.1); small = (across.2, down.2); wide = sym across.0; long = down.0 }
+    record {
+      narrow = z.0.1;
+      low = z.1.1;
+      some_across = across.1;
+      some_down = down.1;
+      few_across = across.2;
+      few_down = down.2;
+      wide = sym across.0;
+      long = down.0;
+    }

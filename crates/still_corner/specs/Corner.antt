@@ -60,7 +60,10 @@ pub record RowsMarked (same : (x y : ℕ) → Bool) (size : ℕ × ℕ) (n : ℕ
 
 -- a column of three rows lies within the bytes
 pub record ColumnIn (bytes : List ℕ) (width x above y below : ℕ) : Type 0 where
-  pub near : (x ≤ 65536) × (above ≤ 65536) × (y ≤ 65536) × (below ≤ 65536)
+  pub column : x ≤ 65536
+  pub first : above ≤ 65536
+  pub second : y ≤ 65536
+  pub third : below ≤ 65536
   pub narrow : width ≤ 65536
   pub upper : above * width + x < length bytes
   pub middle : y * width + x < length bytes

@@ -85,7 +85,7 @@ module _ (first second : Plane) (width height : ℕ) (s : Settings) where
       let z = sizes_in size (ok 0 _ refl) in
       let long = eqb-true (length filled) (width * height) (ok 3 _ refl) in
       let rows = rows_are height width z.1.0 in
-      (record { near = (z.0.1, z.1.1); apart = omega (arith, z.0.1); inside = omega arith }, p.0, q.0, z.0.0, long)
+      (record { narrow = z.0.1; low = z.1.1; apart = omega (arith, z.0.1); inside = omega arith }, p.0, q.0, z.0.0, long)
     where
       rows_are : (h w : ℕ) → 1 ≤ h → (h - 1) * w + w ≡ w * h
       rows_are h w some =

@@ -10,7 +10,7 @@ use lib.ListN.{length}
 use Rattle.rules.specs.Forms.{Plane, each}
 use Rattle.rules.specs.Domain.{are_sizes, is_pitch, is_plane, have_pitches, have_lengths}
 use Rattle.laws.proofs.Accepted.{both, sizes_in, pitch_in}
-use Rattle.still_pass.specs.Pass.{RowIn, PlaneIn}
+use Rattle.still_pass.specs.Pass.{PlaneIn}
 
 pub and_true : (a b : Bool) → a ≡ true → b ≡ true → (a && b) ≡ true
 and_true a b e f = rw (e, f)
@@ -23,20 +23,18 @@ first_in p rest size s pitches lengths =
     let z = sizes_in size s in
     let a = both (is_pitch p.pitch size.0) (have_pitches rest size) pitches in
     let b = both (is_plane p size) (have_lengths rest size) lengths in
-    (record { near = (z.0.1, z.1.1); apart = (pitch_in p.pitch size.0 a.0).1; inside = leb-true _ _ b.0 }, a.1, b.1)
+    (record { narrow = z.0.1; low = z.1.1; apart = (pitch_in p.pitch size.0 a.0).1; inside = leb-true _ _ b.0 }, a.1, b.1)
 
--- ---- the pixels of a row, and the rows of a plane
-
-pub row_in : {bytes : List ℕ} {pitch y : ℕ} {size : ℕ × ℕ} → PlaneIn bytes pitch size → y < size.1 → RowIn bytes pitch size.0 y
-row_in {pitch = pitch} {y} {size} p below =
-    let near = p.near in
+-- a pixel lies within the bytes
+pub pixel_in : {bytes : List ℕ} {pitch x y : ℕ} {size : ℕ × ℕ} → PlaneIn bytes pitch size → x < size.0 → y < size.1 → y * pitch + x < length bytes
+pixel_in {pitch = pitch} {y = y} {size} p left upper =
     let up : y ≤ size.1 - 1 = omega arith in
-    record { near = (near.0, omega arith); apart = p.apart; inside = omega (arith, mul-le-mul_right pitch up, p.inside) }
+    omega (arith, mul-le-mul_right pitch up, p.inside)
+
+-- and so does every place
+pub all_in : {bytes : List ℕ} {pitch : ℕ} {size : ℕ × ℕ} → PlaneIn bytes pitch size → (k : ℕ) → k < (size.1 - 1) * pitch + size.0 → k < length bytes
+all_in p k below = omega (arith, p.inside)
 
 -- a list that is as long
 pub plane_as_long : {bytes other : List ℕ} {pitch : ℕ} {size : ℕ × ℕ} → PlaneIn bytes pitch size → length other ≡ length bytes → PlaneIn other pitch size
-plane_as_long p e = record { near = p.near; apart = p.apart; inside = omega (arith, p.inside) }
-
--- every place of a plane lies within its bytes
-pub all_in : {bytes : List ℕ} {pitch : ℕ} {size : ℕ × ℕ} → PlaneIn bytes pitch size → (k : ℕ) → k < (size.1 - 1) * pitch + size.0 → k < length bytes
-all_in p k below = omega (arith, p.inside)
+plane_as_long p e = record { narrow = p.narrow; low = p.low; apart = p.apart; inside = omega (arith, p.inside) }

@@ -1,5 +1,5 @@
 -- A pass that stores each pixel, and a call without a count: what they leave, and what they ask.
-use Rattle.std.specs.Prelude.{◌≡◌, cond, List, ℕ, ◌+◌, ◌-◌, ◌*◌, ◌≤◌, ◌<◌, length, Result}
+use Rattle.std.specs.Prelude.{◌≡◌, cond, List, ℕ, ◌+◌, ◌-◌, ◌*◌, ◌≤◌, length, Result}
 use Rattle.rules.specs.declared.Refusal.{Refusal}
 use Rattle.rules.specs.Forms.{Rule, scan_row, scan, stroke}
 use Rattle.rules.specs.Refusals.{numbered}
@@ -29,14 +29,9 @@ pub record Passed (number : ℕ) (left output : List ℕ) (r : Result Unit Refus
   pub answer : numbered r ≡ number
   pub bytes : output ≡ left
 
--- the pixels of row y, of this width, lie within the bytes of a plane
-pub record RowIn (bytes : List ℕ) (pitch width y : ℕ) : Type 0 where
-  pub near : (width ≤ 4096) × (y ≤ 4096)
-  pub apart : pitch ≤ 65536
-  pub inside : y * pitch + width ≤ length bytes
-
--- so do all pixels
+-- the pixels of a plane lie within its bytes
 pub record PlaneIn (bytes : List ℕ) (pitch : ℕ) (size : ℕ × ℕ) : Type 0 where
-  pub near : (size.0 ≤ 4096) × (size.1 ≤ 4096)
+  pub narrow : size.0 ≤ 4096
+  pub low : size.1 ≤ 4096
   pub apart : pitch ≤ 65536
   pub inside : (size.1 - 1) * pitch + size.0 ≤ length bytes

@@ -2,9 +2,9 @@
 // apart.
 #![tactic(auto)]
 
-ghost use Rattle.std.specs.Prelude.{ℕ, ◌+◌, ◌*◌, ◌≤◌, ◌<◌};
-ghost use Rattle.still_pass.specs.Pass.{RowPainted, RowsPainted, RowIn, PlaneIn};
-ghost use Rattle.still_cells.specs.Cells.{RowCells, PlaneCells};
+ghost use Rattle.std.specs.Prelude.{◌≤◌, ◌<◌};
+ghost use Rattle.still_pass.specs.Pass.{RowPainted, RowsPainted, PlaneIn};
+ghost use Rattle.still_cells.specs.Cells.{PlaneCells};
 ghost use Rattle.still_rows.specs.Rows.{ruled, Reads};
 
 use still_cells::{Cells, Numbers};
@@ -20,17 +20,18 @@ fn row<W: Work, C: Cells>(
     steps: C,
     y: usize,
 )
-    requires room { RowIn output.old numbers.output_pitch numbers.width y }
-    requires cells { RowCells mask.now numbers.mask_width (C.across steps) (C.down steps) numbers.width y }
+    requires room { PlaneIn output.old numbers.output_pitch (numbers.width, numbers.height) }
+    requires cells { PlaneCells mask.now numbers.mask_width (C.across steps) (C.down steps) (numbers.width, numbers.height) }
     requires pitch { numbers.pitch ≤ 65536 }
-    requires frames { (x : ℕ) → x < numbers.width → W.reads work (y * numbers.pitch + x) }
+    requires frames { Reads (W.reads work) numbers }
+    requires row { y < numbers.height }
     ensures { RowPainted (ruled (W.writes work) (W.byte work) mask.now numbers (C.across steps) (C.down steps)) numbers.output_pitch y numbers.width output.old output.new }
 {
     let cells = still_cells::cell_count(steps);
     for x in 0..numbers.width {
         let k = plane::place(y, numbers.output_pitch, x);
         let from = plane::place(y, numbers.pitch, x);
-        let sum = still_cells::byte_sum(mask, numbers.mask_width, steps, x, y);
+        let sum = still_cells::byte_sum(mask, numbers, steps, x, y);
         let weight = Weight { sum, cells };
         output[k] = work.pixel(from, output[k], weight, C::SKIPS);
     }

@@ -1,5 +1,5 @@
 -- Whether a pixel is the same, by the columns and rows that are read, and what the reads ask.
-use Rattle.std.specs.Prelude.{Bool, cond, List, ℕ, ◌+◌, ◌*◌, ◌≤◌, ◌<◌, length, Float}
+use Rattle.std.specs.Prelude.{Bool, cond, List, ℕ, ◌+◌, Float}
 use Rattle.rules.specs.Forms.{Plane, apart}
 use Rattle.rules.specs.Literals.{4·0, 255·0}
 use Rattle.rules.specs.Float.{◌⊖◌, ◌⊘◌, float}
@@ -33,12 +33,3 @@ same_bit first second size s x y = cond (same_at first second size s x y) 1 0
 -- of two frames as they are lent
 abbrev pub same_plane : (first second : List ℕ) → (pitch width height : ℕ) → Given → (x y : ℕ) → ℕ
 same_plane first second pitch width height s = same_bit (plane_of first pitch) (plane_of second pitch) (width, height) (settled s)
-
--- the four pixels lie within the bytes of a plane
-pub record Around (bytes : List ℕ) (pitch x right y below : ℕ) : Type 0 where
-  pub near : (x ≤ 65536) × (right ≤ 65536) × (y ≤ 65536) × (below ≤ 65536)
-  pub apart : pitch ≤ 65536
-  pub here : y * pitch + x < length bytes
-  pub beside : y * pitch + right < length bytes
-  pub under : below * pitch + x < length bytes
-  pub corner : below * pitch + right < length bytes

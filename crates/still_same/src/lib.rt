@@ -4,9 +4,9 @@
 ghost use Rattle.std.specs.Prelude.{◌≡◌, cond, ◌+◌, ◌-◌, ◌*◌, ◌≤◌, ◌<◌, length};
 ghost use Rattle.rules.specs.Still.{is_same};
 ghost use Rattle.calls.specs.Lent.{plane_of};
-ghost use Rattle.still_pass.specs.Pass.{RowIn, PlaneIn};
+ghost use Rattle.still_pass.specs.Pass.{PlaneIn};
 ghost use Rattle.still_pass.specs.Table.{RowStored, RowsStored};
-ghost use Rattle.still_same.specs.Same.{detail_by, detail_at, settled, same_by, same_plane, Around};
+ghost use Rattle.still_same.specs.Same.{detail_by, detail_at, settled, same_by, same_plane};
 
 // How far two pixels may differ and be the same: a limit of change, and, where the detail is stronger than an edge, a
 // tolerance of its strength.
@@ -42,15 +42,19 @@ fn detail(here: u8, right: u8, below: u8, corner: u8) -> f32
     (f32::from(here) - f32::from(sum) / 4.0) / 255.0
 }
 
-// A pixel's detail, with the columns x and right, and the rows y and below.
-fn detail_at(bytes: &[u8], pitch: usize, x: usize, right: usize, y: usize, below: usize) -> f32
-    requires { Around bytes.now pitch x right y below }
-    ensures { result ≡ detail_at (plane_of bytes.now pitch) x right y below }
+// A pixel's detail in one of the planes, with the columns x and right, and the rows y and below.
+fn detail_at(bytes: &[u8], frames: Frames, x: usize, right: usize, y: usize, below: usize) -> f32
+    requires inside { (frames.height - 1) * frames.pitch + frames.width ≤ length bytes.now }
+    requires column { x < frames.width }
+    requires beside { right < frames.width }
+    requires row { y < frames.height }
+    requires under { below < frames.height }
+    ensures { result ≡ detail_at (plane_of bytes.now frames.entry.pitch) x right y below }
 {
-    let a = bytes[plane::place(y, pitch, x)];
-    let b = bytes[plane::place(y, pitch, right)];
-    let c = bytes[plane::place(below, pitch, x)];
-    let d = bytes[plane::place(below, pitch, right)];
+    let a = bytes[plane::place(y, frames.pitch, x)];
+    let b = bytes[plane::place(y, frames.pitch, right)];
+    let c = bytes[plane::place(below, frames.pitch, x)];
+    let d = bytes[plane::place(below, frames.pitch, right)];
     detail(a, b, c, d)
 }
 
@@ -76,15 +80,15 @@ fn same_at(frames: Frames, settings: Settings, x: usize, right: usize, y: usize,
     let k = plane::place(y, frames.pitch, x);
     let apart = frames.first[k].abs_diff(frames.second[k]);
     let change = float::of_byte(apart) / 255.0;
-    let a = detail_at(frames.first, frames.pitch, x, right, y, below);
-    let b = detail_at(frames.second, frames.pitch, x, right, y, below);
+    let a = detail_at(frames.first, frames, x, right, y, below);
+    let b = detail_at(frames.second, frames, x, right, y, below);
     u8::from(is_same(change, a, b, settings))
 }
 
 // One row. The last column is its own right neighbour.
 #[tactic(auto, using(still_pass::proofs::Pass::row_none, still_pass::proofs::Tables::entry_more, crate::proofs::Rows::same_here))]
 fn same_row(still: &mut [u8], frames: Frames, settings: Settings, y: usize)
-    requires room { RowIn still.old frames.width frames.width y }
+    requires room { PlaneIn still.old frames.width (frames.width, frames.height) }
     requires row { y < frames.height }
     ensures { let f = frames.entry in RowStored f.width (same_plane f.first.now f.second.now f.pitch f.width f.height settings) y f.width still.old still.new }
 {

@@ -5,7 +5,7 @@ use native.Mathlib.Nat.{le_antisymm}
 use native.Mathlib.Omega.{arith}
 use lib.ListN.{length}
 use Rattle.rules.specs.Reading.{after}
-use Rattle.still_pass.proofs.Accepted.{row_in}
+use Rattle.still_pass.proofs.Accepted.{pixel_in}
 use Rattle.still_corner.proofs.Marks.{mark_is, row_marked, none_marked, column_is}
 use Rattle.still_corner.proofs.mark_row.Goals as goal
 
@@ -18,7 +18,9 @@ loop-x-init c = λ same h.
     (none_marked same (a.width, a.height) a.y a.still.now h, first, first)
 
 pub bounds-still-k : goal.bounds-still-k
-bounds-still-k c = omega (arith, c.place-k.ensures, (row_in c.requires.room c.requires.row).inside)
+bounds-still-k c =
+    let inside : c.loop-x.x < c.args.width = omega arith in
+    omega (arith, c.place-k.ensures, pixel_in c.requires.room inside c.requires.row)
 
 pub loop-x-preserved : goal.loop-x-preserved
 loop-x-preserved c =
@@ -30,7 +32,7 @@ loop-x-preserved c =
     let beside : x + 1 < a.width = omega arith in
     let next : x + 1 ≡ after x a.width = omega arith in
     let back : x + 1 - 1 ≡ x = omega arith in
-    let in_list : a.y * a.width + x < length c.loop-x.still = omega (arith, (row_in c.requires.room c.requires.row).inside) in
+    let in_list : a.y * a.width + x < length c.loop-x.still = omega (arith, pixel_in c.requires.room inside c.requires.row) in
     λ same h.
     let i = c.loop-x.invariant same h in
     let right = c.column_at-right.ensures ∙ column_is same size c.loop-x.still (x + 1) _ a.y _ i.0.holds beside up c.requires.row c.after-below.ensures.1 in
@@ -45,7 +47,7 @@ returns c = λ same h.
     let inside : last < a.width = omega arith in
     let next : last ≡ after last a.width = omega arith in
     let whole : last + 1 ≡ a.width = omega arith in
-    let in_list : a.y * a.width + last < length c.loop-x.still = omega (arith, (row_in c.requires.room c.requires.row).inside) in
+    let in_list : a.y * a.width + last < length c.loop-x.still = omega (arith, pixel_in c.requires.room inside c.requires.row) in
     let i = rw (le_antisymm c.loop-x.auto.x-end c.loop-x-test.false) at (c.loop-x.invariant same h) in
     let v = c.mark-2.ensures ∙ mark_is same size last a.y inside c.requires.row _ _ _ _ _ last c.saturating_sub-above.ensures c.after-below.ensures.0 next i.2 i.1 i.1 in
     rw c.place-k-2.ensures (rw whole at (row_marked same size last a.y inside c.requires.row _ _ _ i.0 in_list v))

@@ -14,7 +14,7 @@ invariant_of-frames c =
     let s = settled a.settings in
     -- no row of the table fits
     let r = runs (plane_of a.first.now a.pitch) (plane_of a.second.now a.pitch) a.width a.height s a.still.now (sym (c.in_ok-tested.ensures s)) in
-    record { some = r.3; narrow = r.0.near.0; low = r.0.near.1; apart = r.1.apart; first_inside = r.1.inside; second_inside = r.2.inside }
+    record { some = r.3; narrow = r.0.narrow; low = r.0.low; apart = r.1.apart; first_inside = r.1.inside; second_inside = r.2.inside }
 
 pub same_rows-requires : goal.same_rows-requires
 same_rows-requires c =
