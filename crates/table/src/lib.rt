@@ -9,7 +9,9 @@ ghost use Rattle.table.specs.Models.{model_put};
 pub fn cells(size: usize) -> usize
     ensures { result ≡ cells_of size }
 {
-    size.div_ceil(8)
+    // Kept: div_ceil would be a second way from a pixel to its cell, and the one way holds no division.
+    let whole = layer_lookup::cell_of(size, 8);
+    if whole * 8 == size { whole } else { whole + 1 }
 }
 
 // A cover of this length has a byte for each cell.
