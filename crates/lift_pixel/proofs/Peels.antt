@@ -19,7 +19,7 @@ use Rattle.layer_lent.specs.declared.Shape.{Shape}
 use Rattle.layer_lent.specs.Lent.{lay, Held}
 use Rattle.scene_whole.specs.Rings.{seen}
 use Rattle.scene_whole.proofs.Around.{under_whole}
-use Rattle.lift_pixel.specs.Works.{rule_of}
+use Rattle.lift_pixel.specs.Works.{Bytes, rule_of}
 
 -- ---- which are written, by the gap
 
@@ -33,7 +33,7 @@ far_writes l plane x y t = rw t
 
 -- ---- what is done to a pixel of a near cell
 
-module _ (byte : Shape → Held → (x y old : ℕ) → ℕ) (s : Shape) (held : Held) (x y old : ℕ) (near : (gap (lay s held) s.plane x y ≼ 0·0) ≡ true) where
+module _ (byte : Bytes) (s : Shape) (held : Held) (x y old : ℕ) (near : (gap (lay s held) s.plane x y ≼ 0·0) ≡ true) where
   pub change_keep : is_plain (texel (lay s held) s.plane x y) ≡ true → None ≡ change (rule_of byte s held) x y old
   unfolding change
   change_keep t = sym (simp (near_writes (lay s held) s.plane x y near, t))

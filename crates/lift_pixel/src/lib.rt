@@ -1,18 +1,14 @@
 // What peel and unpeel do to one pixel: they write the same ones.
 #![tactic(auto)]
 
-ghost use Rattle.std.specs.Prelude.{◌≡◌, ℕ, true};
+ghost use Rattle.std.specs.Prelude.{◌≡◌, true};
 ghost use Rattle.rules.specs.Literals.{0·0};
-ghost use Rattle.rules.specs.Float.{◌≼◌, float, pixel};
-ghost use Rattle.rules.specs.Reading.{gap, texel as texel_of, at};
-ghost use Rattle.rules.specs.Scene.{value, scene as scene_of};
+ghost use Rattle.rules.specs.Float.{◌≼◌};
+ghost use Rattle.rules.specs.Reading.{gap, texel as texel_of};
 ghost use Rattle.plane.specs.Done.{change as change_of};
-ghost use Rattle.calls.specs.Lent.{plane_of};
-ghost use Rattle.layer_lent.specs.declared.Shape.{Shape};
 ghost use Rattle.layer_lent.specs.declared.Plan.{Plan};
-ghost use Rattle.layer_lent.specs.Lent.{lay, Held, Sound, Inside};
-ghost use Rattle.lift_straight.specs.Laid.{byte_of};
-ghost use Rattle.lift_pixel.specs.Works.{Over, Framed, rule_of};
+ghost use Rattle.layer_lent.specs.Lent.{lay, Sound, Inside};
+ghost use Rattle.lift_pixel.specs.Works.{Over, Framed, Bytes, peel_bytes, unpeel_bytes, rule_of};
 
 use layer_lent::{Lent, Plan};
 use rules::{Model, Scene};
@@ -22,7 +18,7 @@ pub trait Work: Copy {
     // the frames lie over the plane that is worked on
     ghost framed: { Self → Plan → Type 0 };
 
-    ghost byte: { Self → Shape → Held → (x y old : ℕ) → ℕ };
+    ghost byte: { Self → Bytes };
 
     // The byte of a pixel with this model.
     fn made<L: Lent>(self, plan: Plan, layer: L, x: usize, y: usize, model: Model, old: u8) -> u8
@@ -52,7 +48,7 @@ fn peeled<L: Lent>(plan: Plan, layer: L, raw: &[u8], x: usize, y: usize, model: 
     requires frame { Over plan raw.now plan.shape.first_pitch }
     requires inside { Inside plan x y }
     requires texel { model ≡ texel_of (lay plan.shape (L.held layer)) plan.shape.plane x y }
-    ensures { result ≡ pixel (value (scene_of (lay plan.shape (L.held layer)) plan.shape.plane (plane_of raw.now plan.shape.first_pitch) (float x) (float y) true)) }
+    ensures { result ≡ peel_bytes raw.now plan.shape (L.held layer) x y 0 }
 {
     let pitch = plan.shape.first_pitch;
     match scene_lift::lifted(sample::at(raw, pitch, x, y), model) {
@@ -67,7 +63,7 @@ fn peeled<L: Lent>(plan: Plan, layer: L, raw: &[u8], x: usize, y: usize, model: 
 impl Work for Peel<'_> {
     ghost framed = { λ w p. Over p w.raw.now p.shape.first_pitch };
 
-    ghost byte = { λ w s held x y _. pixel (value (scene_of (lay s held) s.plane (plane_of w.raw.now s.first_pitch) (float x) (float y) true)) };
+    ghost byte = { λ w. peel_bytes w.raw.now };
 
     fn made<L: Lent>(self, plan: Plan, layer: L, x: usize, y: usize, model: Model, old: u8) -> u8 {
         peeled(plan, layer, self.raw, x, y, model)
@@ -77,7 +73,7 @@ impl Work for Peel<'_> {
 impl Work for Unpeel<'_> {
     ghost framed = { λ w p. Framed p w.first.now w.second.now };
 
-    ghost byte = { λ w s held x y old. byte_of (texel_of (lay s held) s.plane x y) (at (plane_of w.first.now s.first_pitch) x y) (at (plane_of w.second.now s.second_pitch) x y) s.time old };
+    ghost byte = { λ w. unpeel_bytes w.first.now w.second.now };
 
     fn made<L: Lent>(self, plan: Plan, layer: L, x: usize, y: usize, model: Model, old: u8) -> u8 {
         lift_straight::byte(plan.shape, [self.first, self.second], model, x, y, old)

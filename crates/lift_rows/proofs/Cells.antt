@@ -1,5 +1,5 @@
 -- The laws of a row that is gone through cell by cell. Assumes nothing.
-use mathlib.Core.Path.{◌≡◌, refl, sym, ◌∙◌}
+use mathlib.Core.Path.{◌≡◌, refl, sym}
 use mathlib.Core.Bool.{Bool, true, false, not, beq}
 use mathlib.Core.Logic.{◌⊎◌, inl, inr}
 use mathlib.Core.List.{List, []}
@@ -13,15 +13,13 @@ use Rattle.rules.specs.Forms.{Rule}
 use Rattle.rules.specs.Literals.{0·0, 8·0}
 use Rattle.rules.specs.Float.{◌⊖◌, ◌⊗◌, ◌≼◌, signed}
 use Rattle.rules.specs.Reading.{distance, gap}
-use Rattle.plane.specs.declared.Change.{Change}
-use Rattle.plane.specs.declared.Change.TheVariants.{Keep, Put}
+use Rattle.std.specs.Prelude.{Option, Some, None}
 use Rattle.plane.specs.Done.{change, Stamped}
 use Rattle.plane.proofs.Laws.{tallied_few, row_more, row_skip_run}
 use Rattle.layer_lent.specs.declared.Plan.{Plan}
-use Rattle.layer_lent.specs.Lent.{Bytes, holding, Planned, Held}
-use Rattle.lift_pixel.specs.declared.Work.{Work}
-use Rattle.lift_pixel.specs.Works.{rule_of}
-use Rattle.lift_pixel.proofs.Peels.{writes_is, far_writes}
+use Rattle.layer_lent.specs.Lent.{holding, Planned, Held}
+use Rattle.lift_pixel.specs.Works.{Bytes, rule_of}
+use Rattle.lift_pixel.proofs.Peels.{far_writes}
 use Rattle.layer_cell.specs.Cells.{CellEnd}
 use Rattle.lift_rows.specs.Rows.{Alike, CellsTo, RowOn}
 
@@ -30,7 +28,7 @@ use Rattle.lift_rows.specs.Rows.{Alike, CellsTo, RowOn}
 pub run_none : (rule : Rule) (pitch y from count : ℕ) (bytes : List ℕ) → RowOn rule pitch y from from count bytes bytes count
 run_none rule pitch y from count bytes = record { on = λ f s done. done; few = omega arith }
 
-pub run_more : {rule : Rule} {pitch y from x count : ℕ} {before bytes after : List ℕ} {n r : ℕ} {d : Change} → from ≤ x
+pub run_more : {rule : Rule} {pitch y from x count : ℕ} {before bytes after : List ℕ} {n r : ℕ} {d : Option ℕ} → from ≤ x
     → RowOn rule pitch y from x count before bytes n → d ≡ change rule x y (get_or bytes (y * pitch + x) 0) → Stamped bytes (y * pitch + x) d n after r
     → RowOn rule pitch y from (x + 1) count before after r
 run_more {n = n} {d = d} ahead h e s =
@@ -40,9 +38,9 @@ run_more {n = n} {d = d} ahead h e s =
     }
 
 -- a run that is counted from 0
-pub counted_on : {bytes after : List ℕ} {k n r : ℕ} (count : ℕ) (d : Change) → Stamped bytes k d n after r → Stamped bytes k d (count + n) after (count + r)
-counted_on count Keep s = record { bytes = s.bytes; tally = omega (arith, s.tally) }
-counted_on count (Put b) s = record { bytes = s.bytes; tally = omega (arith, s.tally) }
+pub counted_on : {bytes after : List ℕ} {k n r : ℕ} (count : ℕ) (d : Option ℕ) → Stamped bytes k d n after r → Stamped bytes k d (count + n) after (count + r)
+counted_on count None s = record { bytes = s.bytes; tally = omega (arith, s.tally) }
+counted_on count (Some b) s = record { bytes = s.bytes; tally = omega (arith, s.tally) }
 
 -- pixels that are not written are passed over
 pub run_skip : (rule : Rule) (pitch y from to count : ℕ) (bytes : List ℕ) → from ≤ to → ((k : ℕ) → from ≤ k → k < to → rule.writes k y ≡ false)
@@ -90,11 +88,9 @@ module _ (p : Plan) (h : Planned p) (second : List ℤ) (y : ℕ) where
       go (no above) = rw (gap_is x k luma first d (end.same k (omega arith) high) is) t
 
   -- far pixels are not written
-  pub far_all : (held : Held) (frames : Bytes) (w : Work) (from to : ℕ) → second ≡ part p.shape held 2 → Alike p second y from false to
-      → (k : ℕ) → from ≤ k → k < to → (rule_of w p.shape held frames).writes k y ≡ false
-  far_all held frames w from to is far k low high =
-      writes_is w p.shape held frames k y
-      ∙ far_writes _ _ k y (rw is at (far (part p.shape held 0) (part p.shape held 1) k low high))
+  pub far_all : (held : Held) (byte : Bytes) (from to : ℕ) → second ≡ held 2 → Alike p second y from false to
+      → (k : ℕ) → from ≤ k → k < to → (rule_of byte p.shape held).writes k y ≡ false
+  far_all held byte from to is far k low high = far_writes _ _ k y (rw is at (far (held 0) (held 1) k low high))
 
   -- after the far cells and the near ones a row is further on
   pub onward : {x from to : ℕ} → CellsTo p second y x false from → CellsTo p second y from true to → x < p.across → x < to

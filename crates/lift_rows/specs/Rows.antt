@@ -6,9 +6,8 @@ use Rattle.rules.specs.Float.{◌≼◌}
 use Rattle.rules.specs.Reading.{gap}
 use Rattle.plane.specs.Done.{RowDone, RowsDone}
 use Rattle.layer_lent.specs.declared.Plan.{Plan}
-use Rattle.layer_lent.specs.Lent.{Bytes, holding, Held}
-use Rattle.lift_pixel.specs.declared.Work.{Work}
-use Rattle.lift_pixel.specs.Works.{rule_of}
+use Rattle.layer_lent.specs.Lent.{holding, Held}
+use Rattle.lift_pixel.specs.Works.{Bytes, rule_of}
 use Rattle.lift_rows.specs.declared.Stretch.{Stretch}
 
 -- a row of the output
@@ -57,15 +56,15 @@ pub record RowOn (rule : Rule) (pitch y from to count : ℕ) (before after : Lis
   pub few : r ≤ count + (to - from)
 
 -- of a stretch, by a work
-abbrev pub RunDone : Work → Plan → Held → (frames : Bytes) → Stretch → (before after : List ℕ) → (r : ℕ) → Type 0
-RunDone work p held frames s before after r =
-    RowOn (rule_of work p.shape held frames) p.shape.output_pitch s.y s.from s.to s.count before after r
+abbrev pub RunDone : Bytes → Plan → Held → Stretch → (before after : List ℕ) → (r : ℕ) → Type 0
+RunDone byte p held s before after r =
+    RowOn (rule_of byte p.shape held) p.shape.output_pitch s.y s.from s.to s.count before after r
 
 -- a row, and all rows, by a work
-abbrev pub RowBy : Work → Plan → Held → (frames : Bytes) → (y count : ℕ) → (before after : List ℕ) → (r : ℕ) → Type 0
-RowBy work p held frames y count before after r =
-    RowDone (rule_of work p.shape held frames) p.shape.output_pitch y p.across count before after r
+abbrev pub RowBy : Bytes → Plan → Held → (y count : ℕ) → (before after : List ℕ) → (r : ℕ) → Type 0
+RowBy byte p held y count before after r =
+    RowDone (rule_of byte p.shape held) p.shape.output_pitch y p.across count before after r
 
-abbrev pub RowsBy : Work → Plan → Held → (frames : Bytes) → (before after : List ℕ) → (r : ℕ) → Type 0
-RowsBy work p held frames before after r =
-    RowsDone (rule_of work p.shape held frames) p.across p.down p.shape.output_pitch before after r
+abbrev pub RowsBy : Bytes → Plan → Held → (before after : List ℕ) → (r : ℕ) → Type 0
+RowsBy byte p held before after r =
+    RowsDone (rule_of byte p.shape held) p.across p.down p.shape.output_pitch before after r

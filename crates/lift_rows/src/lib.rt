@@ -2,13 +2,13 @@
 #![tactic(auto)]
 
 ghost use Rattle.std.specs.Prelude.{◌≤◌, ◌<◌};
-ghost use Rattle.layer_lent.specs.Lent.{lay, Planned, ChromaLong};
+ghost use Rattle.layer_lent.specs.Lent.{lay, Planned, ChromaLong, Sound};
 ghost use Rattle.layer_texel.specs.Fixed.{Fixed};
-ghost use Rattle.lift_pixel.specs.Works.{Given};
+ghost use Rattle.lift_pixel.specs.Works.{Framed, unpeel_bytes};
 ghost use Rattle.lift_rows.specs.Rows.{RunAsks, NearRun, RunDone, CellsTo, RowAsks, RowBy, RowsAsk, RowsBy};
 
 use layer_lent::{Lent, Plan};
-use lift_pixel::Work;
+use lift_pixel::{Peel, Unpeel, Work};
 
 // The pixels of a row from a column to another, and what is counted before them.
 #[derive(Clone, Copy)]
@@ -20,89 +20,90 @@ pub struct Stretch {
 }
 
 // The pixels of a stretch, all in near cells.
-fn run<L: Lent>(
+fn run<W: Work, L: Lent>(
     output: &mut [u8],
-    work: Work,
+    work: W,
     plan: Plan,
     layer: L,
-    frames: [&[u8]; 2],
     stretch: Stretch,
 ) -> usize
-    requires { Given plan (L.held layer) frames × RunAsks plan output.old stretch × NearRun plan (lay plan.shape (L.held layer)) stretch }
-    ensures { RunDone work plan (L.held layer) frames.entry stretch output.old output.new result }
+    requires sound { Sound plan (L.held layer) }
+    requires frames { W.framed work plan }
+    requires room { RunAsks plan output.old stretch }
+    requires near { NearRun plan (lay plan.shape (L.held layer)) stretch }
+    ensures { RunDone (W.byte work) plan (L.held layer) stretch output.old output.new result }
 {
     let mut count = stretch.count;
-    let mut x = stretch.from;
-    while x < stretch.to {
+    for x in stretch.from..stretch.to {
         let k = plane::place(stretch.y, plan.shape.output_pitch, x);
-        let old = output[k];
-        let change = lift_pixel::change(work, plan, layer, frames, x, stretch.y, old);
+        let change = lift_pixel::change(work, plan, layer, x, stretch.y, output[k]);
         count = plane::stamp(output, k, change, count);
-        x += 1;
     }
     count
 }
 
-// The same by unpeel where a pixel has one gain or four, in straight lines. `luma` and `span` are constants at each
-// call: a loop is compiled for each.
-fn straight_run<L: Lent>(
+// The same by unpeel where a pixel has one gain or four, in straight lines. A loop is compiled for each plane and span.
+fn straight_run<L: Lent, const LUMA: bool, const SPAN: usize>(
     output: &mut [u8],
+    work: Unpeel,
     plan: Plan,
-    luma: bool,
-    span: usize,
     layer: L,
-    frames: [&[u8]; 2],
     stretch: Stretch,
 ) -> usize
-    requires { Given plan (L.held layer) frames × RunAsks plan output.old stretch × NearRun plan (lay plan.shape (L.held layer)) stretch × Fixed plan luma span × (span ≤ 2) }
-    ensures { RunDone Work.Unpeel plan (L.held layer) frames.entry stretch output.old output.new result }
+    requires sound { Sound plan (L.held layer) }
+    requires frames { Framed plan work.first.now work.second.now }
+    requires room { RunAsks plan output.old stretch }
+    requires near { NearRun plan (lay plan.shape (L.held layer)) stretch }
+    requires fixed { Fixed plan LUMA SPAN }
+    requires few { SPAN ≤ 2 }
+    ensures { RunDone (unpeel_bytes work.entry.first.now work.entry.second.now) plan (L.held layer) stretch output.old output.new result }
 {
+    let frames = [work.first, work.second];
     let mut count: u32 = 0;
-    let mut x = stretch.from;
-    while x < stretch.to {
+    for x in stretch.from..stretch.to {
         let k = plane::place(stretch.y, plan.shape.output_pitch, x);
-        let old = output[k];
-        let model = layer_texel::straight(plan, luma, span, layer, x, stretch.y);
-        let change = lift_straight::laid(plan.shape, frames, model, x, stretch.y, old);
+        let model = layer_texel::straight::<L, LUMA, SPAN>(plan, layer, x, stretch.y);
+        let change = lift_straight::laid(plan.shape, frames, model, x, stretch.y, output[k]);
         count = lift_straight::mark(output, k, change, count);
-        x += 1;
     }
     stretch.count + count as usize
 }
 
-// Either work's, in the way that is fast for its plane.
-fn near_run<L: Lent>(
-    output: &mut [u8],
-    work: Work,
-    plan: Plan,
-    layer: L,
-    frames: [&[u8]; 2],
-    stretch: Stretch,
-) -> usize
-    requires { Given plan (L.held layer) frames × RunAsks plan output.old stretch × NearRun plan (lay plan.shape (L.held layer)) stretch }
-    ensures { RunDone work plan (L.held layer) frames.entry stretch output.old output.new result }
-{
-    if lift_pixel::unpeels(work) {
+// A work over a stretch, in the way that is fast for its plane.
+pub trait Pass: Work {
+    fn near_run<L: Lent>(self, output: &mut [u8], plan: Plan, layer: L, stretch: Stretch) -> usize
+        requires sound { Sound plan (L.held layer) }
+        requires frames { Self.framed self plan }
+        requires room { RunAsks plan output.old stretch }
+        requires near { NearRun plan (lay plan.shape (L.held layer)) stretch }
+        ensures { RunDone (Self.byte self) plan (L.held layer) stretch output.old output.new result };
+}
+
+impl Pass for Peel<'_> {
+    fn near_run<L: Lent>(self, output: &mut [u8], plan: Plan, layer: L, stretch: Stretch) -> usize {
+        run(output, self, plan, layer, stretch)
+    }
+}
+
+impl Pass for Unpeel<'_> {
+    fn near_run<L: Lent>(self, output: &mut [u8], plan: Plan, layer: L, stretch: Stretch) -> usize {
         if plan.shape.plane == 0 {
-            return straight_run(output, plan, true, 1, layer, frames, stretch);
-        }
-        if plan.span == 2 {
-            return straight_run(output, plan, false, 2, layer, frames, stretch);
+            straight_run::<L, true, 1>(output, self, plan, layer, stretch)
+        } else if plan.span == 2 {
+            straight_run::<L, false, 2>(output, self, plan, layer, stretch)
+        } else {
+            run(output, self, plan, layer, stretch)
         }
     }
-    run(output, work, plan, layer, frames, stretch)
 }
 
 // The end of the cells, from a column on, that are near, or that are far. A cell's distance is read once.
-pub fn cells_end<L: Lent>(
-    plan: Plan,
-    layer: L,
-    y: usize,
-    from: usize,
-    near: bool,
-) -> usize
-    requires { Planned plan × ChromaLong plan (L.held layer 0) × (y < plan.down) × (from ≤ plan.across) }
-    ensures { CellsTo plan (L.held layer 0) y from near result }
+pub fn cells_end<L: Lent>(plan: Plan, layer: L, y: usize, from: usize, near: bool) -> usize
+    requires planned { Planned plan }
+    requires long { ChromaLong plan (L.held layer 2) }
+    requires above { y < plan.down }
+    requires within { from ≤ plan.across }
+    ensures { CellsTo plan (L.held layer 2) y from near result }
 {
     let mut x = from;
     while x < plan.across {
@@ -115,17 +116,18 @@ pub fn cells_end<L: Lent>(
 }
 
 // One row: far cells are passed over, near ones that touch are one run.
-fn row<L: Lent>(
+fn row<W: Pass, L: Lent>(
     output: &mut [u8],
-    work: Work,
+    work: W,
     plan: Plan,
     layer: L,
-    frames: [&[u8]; 2],
     y: usize,
     count: usize,
 ) -> usize
-    requires { Given plan (L.held layer) frames × RowAsks plan output.old y count }
-    ensures { RowBy work plan (L.held layer) frames.entry y count output.old output.new result }
+    requires sound { Sound plan (L.held layer) }
+    requires frames { W.framed work plan }
+    requires room { RowAsks plan output.old y count }
+    ensures { RowBy (W.byte work) plan (L.held layer) y count output.old output.new result }
 {
     let mut counted = count;
     let mut x = 0;
@@ -138,28 +140,22 @@ fn row<L: Lent>(
             to,
             count: counted,
         };
-        counted = near_run(output, work, plan, layer, frames, stretch);
+        counted = work.near_run(output, plan, layer, stretch);
         x = to;
     }
     counted
 }
 
 // All rows.
-pub fn rows<L: Lent>(
-    output: &mut [u8],
-    work: Work,
-    plan: Plan,
-    layer: L,
-    frames: [&[u8]; 2],
-) -> usize
-    requires { Given plan (L.held layer) frames × RowsAsk plan output.old }
-    ensures { RowsBy work plan (L.held layer) frames.entry output.old output.new result }
+pub fn rows<W: Pass, L: Lent>(output: &mut [u8], work: W, plan: Plan, layer: L) -> usize
+    requires sound { Sound plan (L.held layer) }
+    requires frames { W.framed work plan }
+    requires room { RowsAsk plan output.old }
+    ensures { RowsBy (W.byte work) plan (L.held layer) output.old output.new result }
 {
     let mut count = 0;
-    let mut y = 0;
-    while y < plan.down {
-        count = row(output, work, plan, layer, frames, y, count);
-        y += 1;
+    for y in 0..plan.down {
+        count = row(output, work, plan, layer, y, count);
     }
     count
 }

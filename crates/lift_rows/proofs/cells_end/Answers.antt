@@ -2,12 +2,12 @@
 use mathlib.Core.Path.{sym, ◌∙◌}
 use native.Mathlib.Omega.{arith}
 use mir.Syntax.{w16}
-use Rattle.layer_lent.proofs.Signed.{back}
+use Rattle.laws.proofs.Signed.{back}
 use Rattle.lift_rows.proofs.Cells.{differs, agrees, test_is, alike_more}
 use Rattle.lift_rows.proofs.cells_end.Goals as goal
 
 pub loop-x-init : goal.loop-x-init
-loop-x-init g c = (λ luma first k low high. absurd (omega arith), omega arith, omega arith)
+loop-x-init g c = record { alike = λ luma first k low high. absurd (omega arith); ahead = omega arith; within = omega arith }
 
 pub returns-then-near : goal.returns-then-near
 returns-then-near g c =
@@ -16,16 +16,11 @@ returns-then-near g c =
     let other = differs c.near.result c.args.near c.if-near.true in
     let told = rw (back w16 d.result d.type_inv) at (sym c.near.ensures ∙ other) in
     record {
-      ahead = at-loop.invariant.1;
-      within = at-loop.invariant.2;
-      alike = at-loop.invariant.0;
-      ends = λ inside. test_is c.args.plan c.requires.0 _ c.args.y at-loop.x _ d.result d.ensures told;
+      ahead = at-loop.invariant.ahead;
+      within = at-loop.invariant.within;
+      alike = at-loop.invariant.alike;
+      ends = λ inside. test_is c.args.plan c.requires.planned _ c.args.y at-loop.x _ d.result d.ensures told;
     }
-
-pub cell_end-x-requires : goal.cell_end-x-requires
-cell_end-x-requires g c =
-    let h = c.requires.0 in
-    (h.cell, h.small.0, h.small.1, c.loop-x-test.true, h.wide.1)
 
 pub loop-x-smaller : goal.loop-x-smaller
 loop-x-smaller g c = omega (arith, c.cell_end-x.ensures.ahead, c.cell_end-x.ensures.within)
@@ -36,14 +31,15 @@ loop-x-preserved g c =
     let at-loop = c.loop-x in
     let end = c.cell_end-x.ensures in
     let same = agrees c.near.result c.args.near c.if-near.false in
-    let told = rw (back w16 d.result d.type_inv) at (sym c.near.ensures ∙ same) in (
-      alike_more c.args.plan c.requires.0 _ c.args.y c.args.from at-loop.x c.cell_end-x.result c.args.near d.result d.ensures told end at-loop.invariant.0,
-      omega (arith, at-loop.invariant.1, end.ahead),
-      end.within,
-    )
+    let told = rw (back w16 d.result d.type_inv) at (sym c.near.ensures ∙ same) in
+    record {
+      alike = alike_more c.args.plan c.requires.planned _ c.args.y c.args.from at-loop.x c.cell_end-x.result c.args.near d.result d.ensures told end at-loop.invariant.alike;
+      ahead = omega (arith, at-loop.invariant.ahead, end.ahead);
+      within = end.within;
+    }
 
 pub returns : goal.returns
 returns g c =
     let inv = c.loop-x.invariant in
     let out = c.loop-x-test.false in
-    record { ahead = inv.1; within = inv.2; alike = inv.0; ends = λ inside. absurd (omega arith) }
+    record { ahead = inv.ahead; within = inv.within; alike = inv.alike; ends = λ inside. absurd (omega arith) }

@@ -7,39 +7,32 @@ use Rattle.lift_rows.proofs.Cells.{run_skip, far_all, onward}
 use Rattle.lift_rows.proofs.row.Goals as goal
 
 pub loop-x-init : goal.loop-x-init
-loop-x-init g c = (row_none _ _ _ _ _, omega arith, refl)
-
-pub cells_end-from-requires : goal.cells_end-from-requires
-cells_end-from-requires g c =
-    (c.requires.0.sound.planned, c.requires.0.sound.second_long, c.requires.1.above, c.loop-x.invariant.1)
-
-pub cells_end-to-requires : goal.cells_end-to-requires
-cells_end-to-requires g c =
-    (c.requires.0.sound.planned, c.requires.0.sound.second_long, c.requires.1.above, c.cells_end-from.ensures.within)
+loop-x-init g c = record { done = row_none _ _ _ _ _; within = omega arith; long = refl }
 
 pub near_run-counted-requires : goal.near_run-counted-requires
 near_run-counted-requires g c =
-    let at-loop = c.loop-x in
-    let asks = c.requires.1 in
-    let inv = at-loop.invariant in
+    let asks = c.requires.room in
+    let inv = c.loop-x.invariant in
     let far = c.cells_end-from.ensures in
-    let near = c.cells_end-to.ensures in (
-      c.requires.0,
-      record {
+    let near = c.cells_end-to.ensures in
+    record {
+      sound = c.requires.sound;
+      frames = c.requires.frames;
+      room = record {
         above = asks.above;
         narrow = asks.narrow;
         ahead = near.ahead;
         within = near.within;
-        room = omega (arith, asks.room, near.within, inv.2);
-        few = omega (arith, inv.0.few, asks.few, far.ahead, near.ahead, near.within, c.requires.0.sound.planned.wide.1);
-      },
-      near.alike _ _,
-    )
+        room = omega (arith, asks.room, near.within, inv.long);
+        few = omega (arith, inv.done.few, asks.few, far.ahead, near.ahead, near.within, c.requires.sound.planned.wide.1);
+      };
+      near = near.alike _ _;
+    }
 
 pub loop-x-smaller : goal.loop-x-smaller
 loop-x-smaller g c =
     let near = c.cells_end-to.ensures in
-    omega (arith, onward c.args.plan c.requires.0.sound.planned _ c.args.y c.cells_end-from.ensures near c.loop-x-test.true, near.within)
+    omega (arith, onward c.args.plan c.requires.sound.planned _ c.args.y c.cells_end-from.ensures near c.loop-x-test.true, near.within)
 
 pub loop-x-preserved : goal.loop-x-preserved
 loop-x-preserved g c =
@@ -47,10 +40,14 @@ loop-x-preserved g c =
     let far = c.cells_end-from.ensures in
     let a = c.args in
     let skip = run_skip _ _ _ at-loop.x c.cells_end-from.result _ _ far.ahead
-    (far_all a.plan c.requires.0.sound.planned _ a.y (g.L.Lent.held a.layer) a.frames a.work _ _ refl far.alike) in
-    (c.near_run-counted.ensures.on _ _ (skip.on _ _ at-loop.invariant.0), c.cells_end-to.ensures.within, c.near_run-counted.auto.output ∙ at-loop.invariant.2)
+    (far_all a.plan c.requires.sound.planned _ a.y (g.L.Lent.held a.layer) (g.W.Work.byte a.work) _ _ refl far.alike) in
+    record {
+      done = c.near_run-counted.ensures.on _ _ (skip.on _ _ at-loop.invariant.done);
+      within = c.cells_end-to.ensures.within;
+      long = c.near_run-counted.auto.output ∙ at-loop.invariant.long;
+    }
 
 pub returns : goal.returns
 returns g c =
     let at-loop = c.loop-x in
-    rw (le_antisymm at-loop.invariant.1 c.loop-x-test.false) at at-loop.invariant.0
+    rw (le_antisymm at-loop.invariant.within c.loop-x-test.false) at at-loop.invariant.done
