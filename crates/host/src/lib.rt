@@ -195,7 +195,7 @@ pub fn safeteal_stats<'f, 'm>(
     let fields = [forward_x, forward_y, backward_x, backward_y];
     let first = [first0, first1, first2];
     let second = [second0, second1, second2];
-    told::number(stats::stats(luma, chroma1, chroma2, first, second, fields, numbers))
+    told::told(stats::stats(luma, chroma1, chroma2, first, second, fields, numbers))
 }
 
 pub fn safeteal_assemble(
