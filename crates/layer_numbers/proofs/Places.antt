@@ -1,12 +1,9 @@
 -- Where a pixel's stored numbers stand, and that they stand within their slices. Assumes nothing.
-use mathlib.Core.Path.{◌≡◌, sym, ◌∙◌}
 use mathlib.Core.List.{List}
-use Prim.Native.Nat.{ℕ, ◌+◌, ◌*◌, ◌/◌, ◌≤◌, ◌<◌}
-use native.Mathlib.Nat.{suc-mul, mul-one, mul_comm, mul-le-mul_right, div-one, lt_of_lt_of_le}
+use Prim.Native.Nat.{ℕ, ◌+◌, ◌*◌, ◌≤◌, ◌<◌}
+use native.Mathlib.Nat.{suc-mul, mul_comm, mul-le-mul_right}
 use native.Mathlib.Omega.{arith}
-use borrow.Author.Tests.{eq-eqb, ne_eqb}
 use lib.IntN.{ℤ}
-use Rattle.laws.proofs.Lists.{second_in}
 use Rattle.layer_lent.specs.declared.Plan.{Plan}
 use Rattle.layer_lent.specs.Lent.{LumaLong, Planned, Inside}
 use Rattle.layer_numbers.specs.Stored.{RowFits}
@@ -42,29 +39,3 @@ module _ (p : Plan) (x y : ℕ) (h : Planned p) (i : Inside p x y) where
         left = omega arith;
         inside = omega (arith, first_in (y * p.span + dy) p.shape.height p.shape.luma_pitch (x * p.span + p.span) r (omega (arith, c, f.luma_pitch)));
       }
-
-  -- the only gain
-  pub gain_in : (n : ℕ) → 2 * (p.shape.luma_pitch * p.shape.height) ≤ n → p.span ≡ 1 → y * p.shape.luma_pitch + x < n
-  gain_in n long one =
-      let f = h.formed in
-      let w : p.across ≡ p.shape.width = sym (mul-one p.across) ∙ rw one at h.whole_across in
-      let d : p.down ≡ p.shape.height = sym (mul-one p.down) ∙ rw one at h.whole_down in
-      let left = i.left in
-      let above = i.above in
-      omega (arith, first_in y p.shape.height p.shape.luma_pitch (x + 1) (omega arith) (omega (arith, f.luma_pitch)))
-
-  -- an offset of luma
-  pub luma_in : (n : ℕ) → 2 * (p.shape.luma_pitch * p.shape.height) ≤ n → p.shape.plane ≡ 0 → (p.shape.height + y) * p.shape.luma_pitch + x < n
-  luma_in n long zero =
-      let f = h.formed in
-      let left : x < p.shape.width = rw (div-one p.shape.width) at (simp (eq-eqb _ _ zero) at (rw h.is at i.left)) in
-      let above : y < p.shape.height = rw (div-one p.shape.height) at (simp (eq-eqb _ _ zero) at (rw h.is at i.above)) in
-      omega (arith, second_in y p.shape.height p.shape.luma_pitch x above (lt_of_lt_of_le left f.luma_pitch.0))
-
-  -- and of chroma
-  pub chroma_in : (n : ℕ) → 2 * (p.shape.chroma_pitch * p.rows) ≤ n → (p.shape.plane ≡ 0 → ⊥) → y * p.shape.chroma_pitch + x < n
-  chroma_in n long some =
-      let f = h.formed in
-      let left : x < p.shape.width / p.shape.ratio = simp (ne_eqb _ _ some) at (rw h.is at i.left) in
-      let above : y < p.rows = rw h.is (simp (ne_eqb _ _ some) at (rw h.is at i.above)) in
-      omega (arith, first_in y p.rows p.shape.chroma_pitch (x + 1) above (omega (arith, f.chroma_pitch)))

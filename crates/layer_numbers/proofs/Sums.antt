@@ -10,10 +10,10 @@ use lib.IntN.{ℤ, pos, negsuc, nat_abs, ◌+ℤ◌}
 use lib.Signed.{mag, nat_abs-le}
 use lib.ListN.{get_or}
 use lib.Ieee.{binary32}
-use mir.Syntax.{w16, w32}
-use mir.Val.{SFits, to_z, of_z}
+use mir.Syntax.{w32}
+use mir.Val.{SFits}
 use Rattle.rules.specs.Forms.{turns}
-use Rattle.laws.proofs.Signed.{back, sum_size}
+use Rattle.laws.proofs.Signed.{sum_size}
 use Rattle.laws.proofs.Whole.{zero_is, add_int}
 use Rattle.layer_numbers.specs.Stored.{Added, row_total, block_total, RowSummed, BlockSummed}
 
@@ -25,14 +25,6 @@ mag_small (negsuc n) = omega arith
 
 pub fits_sum : (t e : ℤ) → nat_abs t ≤ 524288 → mag e < 2 ^ 15 → SFits w32 (t +ℤ e)
 fits_sum t e h k = record { sfits = omega (arith, sum_size t e, mag_small (t +ℤ e), nat_abs-le e k) }
-
--- a stored number, made wider
-module _ (e : ℤ) (h : mag e < 2 ^ 15) where
-  pub wide_fits : SFits w32 (to_z w16 (of_z w16 e))
-  wide_fits = rw (back w16 e h) (record { sfits = omega arith })
-
-  pub wide_is : to_z w32 (of_z w32 (to_z w16 (of_z w16 e))) ≡ e
-  wide_is = rw (back w16 e h) (back w32 e (omega arith))
 
 pub added_is : {luma : List ℤ} {k : ℕ} (total e : ℤ) → nat_abs total ≤ 524288 → mag e < 2 ^ 15 → e ≡ get_or luma k (pos 0) → Added luma k total (total +ℤ e)
 added_is total e h small is =

@@ -23,7 +23,7 @@ fn added<L: Lent>(layer: L, k: usize, total: i32) -> i32
     requires small { nat_abs total ≤ 524288 }
     ensures { Added (L.held layer 0) k total result }
 {
-    total + gain(layer, k).0 as i32
+    total + i32::from(gain(layer, k).0)
 }
 
 // A row of a pixel's gains, added to a total. The span is a constant: the loops are unrolled.
@@ -65,7 +65,7 @@ fn one<L: Lent>(plan: Plan, layer: L, x: usize, y: usize) -> i32
     requires one { plan.span ≡ 1 }
     ensures { Summed plan (L.held layer 0) x y result }
 {
-    luma_gain(plan, layer, x, y).0 as i32
+    i32::from(luma_gain(plan, layer, x, y).0)
 }
 
 // And of one that has more, row by row.
@@ -135,8 +135,8 @@ pub fn chroma_offset<L: Lent>(plan: Plan, layer: L, x: usize, y: usize) -> Offse
     ensures { result ≡ stored_chroma (lay plan.shape (L.held layer)) plan.shape.plane x y }
 {
     let k = plane::place(y, plan.shape.chroma_pitch, x);
-    if plan.shape.plane == 1 {
-        return Offset(layer.entry(1, k));
+    match plan.shape.plane {
+        1 => Offset(layer.entry(1, k)),
+        _ => Offset(layer.entry(2, k)),
     }
-    Offset(layer.entry(2, k))
 }

@@ -1,6 +1,5 @@
 -- `layer_numbers::gain_row` meets its contract. Assumes nothing.
 use mathlib.Core.Path.{◌≡◌}
-use native.Mathlib.Nat.{mul-le-mul}
 use native.Mathlib.Omega.{arith}
 use mir.Syntax.{w32}
 use Rattle.layer_lent.proofs.Signed.{back}
@@ -9,16 +8,6 @@ use Rattle.layer_numbers.proofs.gain_row.Goals as goal
 
 pub loop-dx-init : goal.loop-dx-init
 loop-dx-init g c = row_none _ _ _ _ _ _
-
-pub place-at-requires : goal.place-at-requires
-place-at-requires g c =
-    let f = c.requires.fits in
-    omega (arith, c.place.ensures, mul-le-mul f.left f.small)
-
-pub added-sum-requires : goal.added-sum-requires
-added-sum-requires g c =
-    let few = rw (back w32 c.args.total c.ranges.total.sfits) at c.loop-dx.invariant.small in
-    record { inside = omega (arith, c.place-at.ensures, c.place.ensures); small = omega (arith, few, c.requires.small, c.requires.fits.small) }
 
 pub loop-dx-preserved : goal.loop-dx-preserved
 loop-dx-preserved g c =

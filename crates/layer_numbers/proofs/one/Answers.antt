@@ -1,22 +1,21 @@
 -- `layer_numbers::one` meets its contract. Assumes nothing.
-use mathlib.Core.Path.{ap}
+use mathlib.Core.Path.{◌≡◌, ap, ◌∙◌}
+use Prim.Native.Nat.{◌^◌, ◌<◌}
 use native.Mathlib.Omega.{arith}
-use lib.Signed.{nat_abs-le}
+use lib.Signed.{mag, nat_abs-le}
+use mir.Syntax.{w16, w32}
 use Rattle.rules.specs.declared.Gain.{Gain}
-use Rattle.layer_numbers.proofs.Sums.{wide_fits, wide_is}
+use Rattle.layer_lent.proofs.Signed.{back}
 use Rattle.layer_lent.proofs.Plans.{span_is}
 use Rattle.layer_numbers.proofs.Texels.{one_is}
 use Rattle.layer_numbers.proofs.one.Goals as goal
 
-pub overflow_cast-result : goal.overflow_cast-result
-overflow_cast-result g c = wide_fits c.luma_gain.result.0 c.struct_told-1.given.0.1
-
 pub returns : goal.returns
 returns g c =
-    let g = c.luma_gain in
-    let e = g.result.0 in
-    let small = c.struct_told-1.given.0.1 in
-    rw (wide_is e small) (record {
-      is = λ a b. one_is _ _ _ _ _ e (span_is _ c.requires.planned) c.requires.one small (ap (λ (g : Gain). g.0) g.ensures);
+    let e = c.luma_gain.result.0 in
+    let small : mag e < 2 ^ 15 = omega arith in
+    let is : c.from.result ≡ e = c.from.ensures ∙ back w16 e small in
+    rw (back w32 c.from.result c.from.type_inv, is) (record {
+      is = λ a b. one_is _ _ _ _ _ e (span_is _ c.requires.planned) c.requires.one small (ap (λ (g : Gain). g.0) c.luma_gain.ensures);
       small = omega (arith, nat_abs-le e small);
     })
