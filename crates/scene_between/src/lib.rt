@@ -26,16 +26,18 @@ fn sign(k: usize) -> f32
     requires { k < 3 }
     ensures { result ≡ sign_of k }
 {
-    if k == 0 {
-        -1.0
-    } else {
-        if k == 1 { 0.0 } else { 1.0 }
+    match k {
+        0 => -1.0,
+        1 => 0.0,
+        _ => 1.0,
     }
 }
 
 // A coordinate beside another, held to the plane.
 fn beside(x: f32, k: usize, radius: f32, size: usize) -> f32
-    requires { (k < 3) × (1 ≤ size) × (size ≤ 4096) }
+    requires side { k < 3 }
+    requires some { 1 ≤ size }
+    requires few { size ≤ 4096 }
     ensures { Held (x ⊕ sign_of k ⊗ radius) size result }
 {
     sample::held(x + sign(k) * radius, size)
@@ -51,7 +53,8 @@ fn gathered_at<L: Lent>(
     y: f32,
     ring: Ring,
 ) -> Ring
-    requires { LiesOver plan (L.held layer) raw.now pitch × Inside plan (cut x) (cut y) }
+    requires sound { LiesOver plan (L.held layer) raw.now pitch }
+    requires inside { Inside plan (cut x) (cut y) }
     ensures { result ≡ gathered_of (under_of (lay plan.shape (L.held layer)) plan.shape.plane (plane_of raw.now pitch) x y) ring }
 {
     let across = sample::between(x, plan.across);
@@ -75,7 +78,8 @@ fn ring_step<L: Lent>(
     side: usize,
     ring: Ring,
 ) -> Ring
-    requires { LiesOver plan (L.held layer) raw.now pitch × (side < 9) }
+    requires sound { LiesOver plan (L.held layer) raw.now pitch }
+    requires point { side < 9 }
     ensures { result ≡ stepped (lay plan.shape (L.held layer)) plan.shape.plane (plane_of raw.now pitch)
         circle.x circle.y circle.radius side ring }
 {
@@ -88,13 +92,8 @@ fn ring_step<L: Lent>(
 }
 
 // The points of a ring, row by row.
-fn ring_around<L: Lent>(
-    plan: Plan,
-    layer: L,
-    raw: &[u8],
-    pitch: usize,
-    circle: Circle,
-) -> Ring
+#[tactic(auto, unfolding(rules::specs::Forms::turns, crate::specs::Rings::ring_up_to))]
+fn ring_around<L: Lent>(plan: Plan, layer: L, raw: &[u8], pitch: usize, circle: Circle) -> Ring
     requires { LiesOver plan (L.held layer) raw.now pitch }
     ensures { result ≡ ring_up_to (lay plan.shape (L.held layer)) plan.shape.plane (plane_of raw.now pitch) circle.x circle.y circle.radius 9 }
 {
@@ -102,10 +101,8 @@ fn ring_around<L: Lent>(
         total: 0.0,
         count: 0.0,
     };
-    let mut side = 0;
-    while side < 9 {
+    for side in 0..9 {
         grown = ring_step(plan, layer, raw, pitch, circle, side, grown);
-        side += 1;
     }
     grown
 }
@@ -120,7 +117,8 @@ fn ring<L: Lent>(
     y: f32,
     times: usize,
 ) -> Ring
-    requires { LiesOver plan (L.held layer) raw.now pitch × (times ≤ 3) }
+    requires sound { LiesOver plan (L.held layer) raw.now pitch }
+    requires few { times ≤ 3 }
     ensures { result ≡ ring_of (lay plan.shape (L.held layer)) plan.shape.plane (plane_of raw.now pitch) x y times }
 {
     let radius = 4.0 / float::of_size(plan.span) * float::of_size(times);
@@ -140,19 +138,17 @@ fn rings<L: Lent>(
     requires { LiesOver plan (L.held layer) raw.now pitch }
     ensures { result ≡ filled_of (lay plan.shape (L.held layer)) plan.shape.plane (plane_of raw.now pitch) x y (Scene.Raw value) }
 {
-    let one = ring(plan, layer, raw, pitch, x, y, 1);
-    if 0.0 < one.count {
-        return Scene::Lifted(one.total / one.count);
+    for times in 1..=3 {
+        let ring = ring(plan, layer, raw, pitch, x, y, times);
+        if let Some(mean) = scene_lift::mean(ring) {
+            return Scene::Lifted(mean);
+        }
     }
-    let two = ring(plan, layer, raw, pitch, x, y, 2);
-    if 0.0 < two.count {
-        return Scene::Lifted(two.total / two.count);
-    }
-    let three = ring(plan, layer, raw, pitch, x, y, 3);
-    scene_lift::mean_or(three, Scene::Raw(value))
+    Scene::Raw(value)
 }
 
 // A scene value, filled if it is raw.
+#[tactic(auto, unfolding(rules::specs::Scene::filled))]
 pub fn filled<L: Lent>(
     plan: Plan,
     layer: L,
@@ -166,7 +162,7 @@ pub fn filled<L: Lent>(
     ensures { result ≡ filled_of (lay plan.shape (L.held layer)) plan.shape.plane (plane_of raw.now pitch) x y scene }
 {
     match scene {
-        Scene::Lifted(value) => Scene::Lifted(value),
+        Scene::Lifted(_) => scene,
         Scene::Raw(value) => rings(plan, layer, raw, pitch, x, y, value),
     }
 }

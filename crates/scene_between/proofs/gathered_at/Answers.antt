@@ -11,7 +11,7 @@ pub returns-then-abs : goal.returns-then-abs
 unfolding under
 returns-then-abs g c =
     let a = c.args in
-    let h = c.requires.0.lies.sound.planned in
+    let h = c.requires.sound.sound.planned in
     let model : c.model_by-model.result ≡ model_at (lay a.plan.shape (g.L.Lent.held a.layer)) a.plan.shape.plane a.x a.y =
     rw (c.model_by-model.ensures, c.between-down.ensures.is, c.between-across.ensures.is)
     (model_is a.plan _ _ (across_is _ h) (down_is _ h) _ _) in
@@ -31,7 +31,7 @@ pub returns-else-abs : goal.returns-else-abs
 unfolding under
 returns-else-abs g c =
     let a = c.args in
-    let h = c.requires.0.lies.sound.planned in
+    let h = c.requires.sound.sound.planned in
     let model : c.model_by-model.result ≡ model_at (lay a.plan.shape (g.L.Lent.held a.layer)) a.plan.shape.plane a.x a.y =
     rw (c.model_by-model.ensures, c.between-down.ensures.is, c.between-across.ensures.is)
     (model_is a.plan _ _ (across_is _ h) (down_is _ h) _ _) in

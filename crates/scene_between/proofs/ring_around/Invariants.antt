@@ -1,15 +1,10 @@
 -- `scene_between::ring_around` meets its contract. The invariant: the first points are gathered. Assumes nothing.
 use mathlib.Core.Path.{◌≡◌}
-use Prim.Native.Nat.{◌≤◌, ◌-◌}
 use Rattle.layer_lent.specs.Lent.{lay}
 use Rattle.scene_between.specs.Rings.{ring_up_to}
 use Rattle.scene_between.proofs.ring_around.Given as goal
 
 abbrev pub invariant-loop-side : goal.invariant-loop-side
 invariant-loop-side g l =
-    (l.grown ≡ ring_up_to (lay l.plan.shape (g.L.Lent.held l.layer)) l.plan.shape.plane (record { bytes = l.raw; pitch = l.pitch })
-    l.circle.x l.circle.y l.circle.radius l.side)
-    × (l.side ≤ 9)
-
-abbrev pub decreases-loop-side : goal.decreases-loop-side
-decreases-loop-side g l = 9 - l.side
+    l.grown ≡ ring_up_to (lay l.plan.shape (g.L.Lent.held l.layer)) l.plan.shape.plane (record { bytes = l.raw; pitch = l.pitch })
+    l.circle.x l.circle.y l.circle.radius l.side

@@ -1,22 +1,28 @@
--- `scene_between::rings` meets its contract, by its callees'. Assumes nothing.
-use mathlib.Core.Path.{◌∙◌}
-use Rattle.rules.specs.Scene.{filled as filled_of}
-use Rattle.scene_between.proofs.Means.{mean_is, none_is}
+-- `scene_between::rings` meets its contract. Assumes nothing.
+use mathlib.Core.Path.{◌≡◌, refl, sym, ◌∙◌}
+use native.Mathlib.Omega.{arith}
+use Rattle.rules.specs.Scene.{filled}
+use Rattle.scene_between.specs.Rings.{means}
+use Rattle.scene_between.proofs.Means.{means_by}
 use Rattle.scene_between.proofs.rings.Goals as goal
 
-pub returns-then-one : goal.returns-then-one
-unfolding filled_of
-returns-then-one g c =
-    let e = c.ring-one.ensures in
-    rw e (mean_is _ _ (rw e at c.if-one.true))
+pub loop-times-init : goal.loop-times-init
+unfolding filled means
+loop-times-init g c = refl
 
-pub returns-then-two : goal.returns-then-two
-unfolding filled_of
-returns-then-two g c =
-    let e = c.ring-two.ensures in
-    rw e (mean_is _ _ (rw e at c.if-two.true) ∙ none_is _ _ (rw c.ring-one.ensures at c.if-one.false))
+pub returns-in-Some : goal.returns-in-Some
+returns-in-Some g c =
+    let at-loop = c.loop-times in
+    sym (at-loop.invariant ∙ means_by _ _ _ _ _ _ _ _ _ at-loop.auto.times (omega arith) c.ring-ring.ensures (c.in-Some.ensures _))
+
+pub loop-times-preserved : goal.loop-times-preserved
+loop-times-preserved g c =
+    let at-loop = c.loop-times in
+    at-loop.invariant ∙ means_by _ _ _ _ _ _ _ _ _ at-loop.auto.times (omega arith) c.ring-ring.ensures (c.in_default.ensures _)
 
 pub returns : goal.returns
-unfolding filled_of
+unfolding means
 returns g c =
-    rw (c.mean_or.ensures, c.ring-three.ensures) (none_is _ _ (rw c.ring-two.ensures at c.if-two.false) ∙ none_is _ _ (rw c.ring-one.ensures at c.if-one.false))
+    let at-loop = c.loop-times in
+    let e : at-loop.times ≡ 4 = omega arith in
+    sym (rw e at at-loop.invariant)

@@ -4,14 +4,14 @@ use native.Mathlib.Omega.{arith}
 use lib.Ieee.{of_bits, of_int, neg}
 use Rattle.scene_between.proofs.sign.Goals as goal
 
-pub returns-then-k-eq0 : goal.returns-then-k-eq0
+pub returns-in-0 : goal.returns-in-0
 unfolding of_bits of_int neg
-returns-then-k-eq0 c = rw c.if-k-eq0.true
+returns-in-0 c = rw c.in-0.is
 
-pub returns-then-k-eq1 : goal.returns-then-k-eq1
+pub returns-in-1 : goal.returns-in-1
 unfolding of_bits of_int
-returns-then-k-eq1 c = rw c.if-k-eq1.true
+returns-in-1 c = rw c.in-1.is
 
-pub returns-else-k-eq1 : goal.returns-else-k-eq1
+pub returns-in_default : goal.returns-in_default
 unfolding of_bits of_int
-returns-else-k-eq1 c = let e : c.args.k ≡ 2 = omega arith in rw e
+returns-in_default c = let e : c.args.k ≡ 2 = omega arith in rw e
