@@ -1,2 +1,3 @@
+pub mod Counted
 pub mod Around
 pub mod Alike

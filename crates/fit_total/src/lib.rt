@@ -1,12 +1,11 @@
 // Totals over the three parts of a window: what their pixels share, and what a trial adds up.
 #![tactic(auto)]
 
-ghost use Rattle.std.specs.Prelude.{◌≡◌, ◌&&◌, [], ◌+◌, ◌≤◌, length, get_or};
+ghost use Rattle.std.specs.Prelude.{◌≡◌, ◌&&◌, not, cond, [], ◌+◌, ◌≤◌, eqb, length, get_or};
 ghost use Rattle.std.specs.Float.{nan};
-ghost use Rattle.rules.specs.Window.{count, present, plus as plus_of, has_previous, has_next, total};
-ghost use Rattle.plane.specs.Slices.{slice};
-ghost use Rattle.fit_total.specs.Around.{luma_part, luma_parts, luma_parts_in, around, Counted, Made, total_of, totals_of};
-ghost use Rattle.fit_total.specs.Alike.{Long, Alike, entry_of};
+ghost use Rattle.rules.specs.Window.{count, plus as plus_of, has_previous, has_next, total};
+ghost use Rattle.rules.specs.Literals.{0·0};
+ghost use Rattle.fit_total.specs.Counted.{Counted};
 
 use rules::{Sums, Trial};
 
@@ -25,6 +24,39 @@ pub struct Counts {
     pub all: f32,
     pub earlier: f32,
     pub later: f32,
+    pub ghost counted: { Counted previous own next before here after all earlier later },
+}
+
+// Which neighbours are added to the own part.
+#[derive(Clone, Copy)]
+pub struct Added {
+    pub before: bool,
+    pub after: bool,
+}
+
+// The sums of a pixel in the previous, own and next part, and the counts of these.
+#[derive(Clone, Copy)]
+pub struct Window {
+    pub previous: Sums,
+    pub own: Sums,
+    pub next: Sums,
+    pub counts: Counts,
+}
+
+// A plane's sums in the previous, own and next part.
+#[derive(Clone, Copy)]
+pub struct Plane<'p> {
+    pub previous: &'p [f32],
+    pub own: &'p [f32],
+    pub next: &'p [f32],
+}
+
+// An entry of a part's slice. That of an absent part is not read.
+fn entry(entries: &[f32], k: usize, pairs: usize) -> f32
+    requires { 1 ≤ pairs → k + 1 ≤ length entries.now }
+    ensures { result ≡ cond (not (eqb pairs 0)) (get_or entries.now k nan) 0·0 }
+{
+    if pairs != 0 { entries[k] } else { 0.0 }
 }
 
 // A total with one number more, or passed over.
@@ -34,39 +66,46 @@ fn plus(adds: bool, total: f32, term: f32) -> f32
     if adds { total + term } else { total }
 }
 
-// A total in part order from 0.0, the neighbours' terms added or passed over.
-pub fn total(before: bool, after: bool, previous: f32, own: f32, next: f32) -> f32
-    ensures { result ≡ total_of before after previous own next }
-{
-    plus(after, plus(before, 0.0, previous) + own, next)
-}
+impl Added {
+    ghost use Rattle.fit_total.specs.Around.{total_of};
 
-// Whether a trial adds the previous part, if there is one.
-pub fn adds_previous(trial: Trial, pairs: usize) -> bool
-    ensures { result ≡ (has_previous trial && present (luma_part [] pairs)) }
-{
-    match trial {
-        Trial::All => pairs != 0,
-        Trial::PreviousOwn => pairs != 0,
-        Trial::OwnNext => false,
+    // A total in part order from 0.0, the neighbours' terms added or passed over.
+    pub fn total(self, previous: f32, own: f32, next: f32) -> f32
+        ensures { result ≡ total_of self.before self.after previous own next }
+    {
+        plus(self.after, plus(self.before, 0.0, previous) + own, next)
     }
 }
 
-// And the next.
-pub fn adds_next(trial: Trial, pairs: usize) -> bool
-    ensures { result ≡ (has_next trial && present (luma_part [] pairs)) }
+// Which neighbours a trial adds, of parts of so many pairs.
+fn neighbours(previous: usize, next: usize, trial: Trial) -> Added
+    ensures before { result.before ≡ (has_previous trial && not (eqb previous 0)) }
+    ensures after { result.after ≡ (has_next trial && not (eqb next 0)) }
 {
+    let before = previous != 0;
+    let after = next != 0;
     match trial {
-        Trial::All => pairs != 0,
-        Trial::PreviousOwn => false,
-        Trial::OwnNext => pairs != 0,
+        Trial::All => Added { before, after },
+        Trial::PreviousOwn => Added {
+            before,
+            after: false,
+        },
+        Trial::OwnNext => Added {
+            before: false,
+            after,
+        },
     }
 }
 
 // The counts of parts of so many pairs.
+#[tactic(auto, unfolding(rules::specs::Window::total))]
 pub fn counts_of(previous: usize, own: usize, next: usize) -> Counts
-    requires { (previous ≤ 12) × (own ≤ 12) × (next ≤ 12) }
-    ensures { Made previous own next result }
+    requires before { previous ≤ 12 }
+    requires here { own ≤ 12 }
+    requires after { next ≤ 12 }
+    ensures before { result.previous ≡ previous }
+    ensures here { result.own ≡ own }
+    ensures after { result.next ≡ next }
 {
     let before = float::of_size(previous * 2);
     let here = float::of_size(own * 2);
@@ -78,65 +117,66 @@ pub fn counts_of(previous: usize, own: usize, next: usize) -> Counts
         before,
         here,
         after,
-        all: total(previous != 0, next != 0, before, here, after),
-        earlier: total(previous != 0, false, before, here, after),
-        later: total(false, next != 0, before, here, after),
+        all: neighbours(previous, next, Trial::All).total(before, here, after),
+        earlier: neighbours(previous, next, Trial::PreviousOwn).total(before, here, after),
+        later: neighbours(previous, next, Trial::OwnNext).total(before, here, after),
     }
 }
 
-// The samples of a trial.
-pub fn samples(counts: Counts, trial: Trial) -> f32
-    requires { Counted counts }
-    ensures { result ≡ total (luma_parts [] [] [] counts) trial count }
-{
-    match trial {
-        Trial::All => counts.all,
-        Trial::PreviousOwn => counts.earlier,
-        Trial::OwnNext => counts.later,
+impl Counts {
+    ghost use Rattle.fit_total.specs.Around.{luma_parts, plane_parts, added_of};
+    ghost use Rattle.fit_total.specs.Alike.{Alike};
+
+    // Which neighbours a trial adds, of those that are there.
+    pub fn added(&self, trial: Trial) -> Added
+        ensures { result ≡ added_of self.now trial }
+    {
+        neighbours(self.previous, self.next, trial)
+    }
+
+    // The samples of a trial.
+    pub fn samples(&self, trial: Trial) -> f32
+        ensures { result ≡ total (luma_parts [] [] [] self.now) trial count }
+    {
+        match trial {
+            Trial::All => self.all,
+            Trial::PreviousOwn => self.earlier,
+            Trial::OwnNext => self.later,
+        }
+    }
+
+    // A trial's total of entry k of a plane's slices.
+    #[tactic(auto, unfolding(rules::specs::Window::total))]
+    pub fn total_at(&self, plane: Plane, trial: Trial, k: usize) -> f32
+        requires alike { Alike self.now plane }
+        requires inside { k + 1 ≤ length plane.own.now }
+        ensures { result ≡ total (plane_parts plane.entry self.now) trial (λ p. get_or p.luma k nan) }
+    {
+        let previous = entry(plane.previous, k, self.previous);
+        let next = entry(plane.next, k, self.next);
+        self.added(trial).total(previous, plane.own[k], next)
     }
 }
 
-// The six totals of a trial, of a pixel's sums in the previous, own and next part.
-pub fn totals(previous: Sums, own: Sums, next: Sums, counts: Counts, trial: Trial) -> Sums
-    ensures { result ≡ totals_of (around previous own next counts) trial 0 }
-{
-    let before = adds_previous(trial, counts.previous);
-    let after = adds_next(trial, counts.next);
-    Sums {
-        p: total(before, after, previous.p, own.p, next.p),
-        i: total(before, after, previous.i, own.i, next.i),
-        pp: total(before, after, previous.pp, own.pp, next.pp),
-        pi: total(before, after, previous.pi, own.pi, next.pi),
-        ii: total(before, after, previous.ii, own.ii, next.ii),
-        apart: total(before, after, previous.apart, own.apart, next.apart),
+impl Window {
+    ghost use Rattle.fit_total.specs.Around.{around, totals_of};
+
+    // The six totals of a trial.
+    #[tactic(auto, unfolding(rules::specs::Window::total))]
+    pub fn totals(&self, trial: Trial) -> Sums
+        ensures { result ≡ totals_of (around self.now) trial 0 }
+    {
+        let added = self.counts.added(trial);
+        let previous = self.previous;
+        let own = self.own;
+        let next = self.next;
+        Sums {
+            p: added.total(previous.p, own.p, next.p),
+            i: added.total(previous.i, own.i, next.i),
+            pp: added.total(previous.pp, own.pp, next.pp),
+            pi: added.total(previous.pi, own.pi, next.pi),
+            ii: added.total(previous.ii, own.ii, next.ii),
+            apart: added.total(previous.apart, own.apart, next.apart),
+        }
     }
-}
-
-// An entry of a part's slice. That of an absent part is not read.
-fn entry(entries: &[f32], k: usize, pairs: usize) -> f32
-    requires { Long pairs entries.now (k + 1) }
-    ensures { result ≡ entry_of pairs entries.now k }
-{
-    if pairs != 0 { entries[k] } else { 0.0 }
-}
-
-// That of the own part.
-fn own(entries: &[f32], k: usize) -> f32
-    requires { k + 1 ≤ length entries.now }
-    ensures { result ≡ get_or entries.now k nan }
-{
-    entries[k]
-}
-
-// A trial's total of entry k of the previous, own and next part's slice.
-pub fn total_at(slices: [&[f32]; 3], counts: Counts, trial: Trial, k: usize) -> f32
-    requires { Alike counts slices × (k + 1 ≤ length (slice slices 1)) }
-    ensures { result ≡ total (luma_parts_in slices.entry counts) trial (λ p. get_or p.luma k nan) }
-{
-    let previous = entry(slices[0], k, counts.previous);
-    let here = own(slices[1], k);
-    let next = entry(slices[2], k, counts.next);
-    let before = adds_previous(trial, counts.previous);
-    let after = adds_next(trial, counts.next);
-    total(before, after, previous, here, next)
 }

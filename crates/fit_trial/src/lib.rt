@@ -2,12 +2,13 @@
 #![tactic(auto)]
 
 ghost use Rattle.std.specs.Prelude.{◌≡◌};
-ghost use Rattle.rules.specs.Window.{better as better_of, found as found_of, pick as pick_of};
-ghost use Rattle.fit_total.specs.Around.{around, Counted};
+ghost use Rattle.rules.specs.Model.{spread as spread_of, same as same_of, left as left_of, trust as trust_of};
+ghost use Rattle.rules.specs.Window.{count, total, totals, better as better_of, found as found_of, pick as pick_of};
+ghost use Rattle.fit_total.specs.Around.{around};
 ghost use Rattle.fit_trial.specs.Judged.{Modelled, all_plain, judged_of, best_of};
 
-use fit_total::Counts;
-use rules::{Best, Found, Model, Sums, Trial};
+use fit_total::Window;
+use rules::{Best, Found, Model, Spread, Trial};
 
 // What is looked for: the limit (`fit` is lent it, and squares it for the window and the trials), the
 // evidence figure, and whether strict models go first.
@@ -26,44 +27,40 @@ pub struct Trials {
     pub later: Model,
 }
 
-// `model` for each trial, step by step side by side: three calls of it would be slower.
-fn models(previous: Sums, own: Sums, next: Sums, counts: Counts, limit: f32, strict: bool) -> Trials
-    requires { Counted counts }
-    ensures { Modelled (around previous own next counts) limit strict result }
+// Means, variances and covariance of a trial.
+#[tactic(auto, unfolding(rules::specs::Window::total))]
+fn spread(window: &Window, trial: Trial) -> Spread
+    ensures { result ≡ spread_of (totals (around window.now) trial 0) (total (around window.now) trial count) }
 {
-    let all = fit_model::spread(
-        fit_total::totals(previous, own, next, counts, Trial::All),
-        counts.all,
-    );
-    let earlier = fit_model::spread(
-        fit_total::totals(previous, own, next, counts, Trial::PreviousOwn),
-        counts.earlier,
-    );
-    let later = fit_model::spread(
-        fit_total::totals(previous, own, next, counts, Trial::OwnNext),
-        counts.later,
-    );
+    fit_model::spread(window.totals(trial), window.counts.samples(trial))
+}
+
+// How far a trial's line is trusted.
+fn trust(spread: Spread, line: Model, settings: Settings) -> f32
+    ensures { result ≡ trust_of (same_of spread) (left_of spread line.gain) settings.limit settings.strict }
+{
+    fit_model::trust(
+        fit_model::same(spread),
+        fit_model::left(spread, line.gain),
+        settings.limit,
+        settings.strict,
+    )
+}
+
+// `model` for each trial, step by step side by side: three calls of it would be slower.
+#[tactic(auto, unfolding(rules::specs::Model::model, rules::specs::Window::tried))]
+fn models(window: &Window, settings: Settings) -> Trials
+    ensures { Modelled (around window.now) settings.limit settings.strict result }
+{
+    let all = spread(window, Trial::All);
+    let earlier = spread(window, Trial::PreviousOwn);
+    let later = spread(window, Trial::OwnNext);
     let all_line = fit_model::line(all);
     let earlier_line = fit_model::line(earlier);
     let later_line = fit_model::line(later);
-    let all_trust = fit_model::trust(
-        fit_model::same(all),
-        fit_model::left(all, all_line.gain),
-        limit,
-        strict,
-    );
-    let earlier_trust = fit_model::trust(
-        fit_model::same(earlier),
-        fit_model::left(earlier, earlier_line.gain),
-        limit,
-        strict,
-    );
-    let later_trust = fit_model::trust(
-        fit_model::same(later),
-        fit_model::left(later, later_line.gain),
-        limit,
-        strict,
-    );
+    let all_trust = trust(all, all_line, settings);
+    let earlier_trust = trust(earlier, earlier_line, settings);
+    let later_trust = trust(later, later_line, settings);
     Trials {
         all: fit_model::blend(all_line, all_trust),
         earlier: fit_model::blend(earlier_line, earlier_trust),
@@ -75,32 +72,26 @@ fn models(previous: Sums, own: Sums, next: Sums, counts: Counts, limit: f32, str
 fn all_plain(trials: Trials) -> bool
     ensures { result ≡ all_plain trials }
 {
-    let first = trials.all;
-    let second = trials.earlier;
-    let third = trials.later;
-    plane::all(
-        fit_model::plain(first),
-        fit_model::plain(second),
-        fit_model::plain(third),
-    )
+    fit_model::plain(trials.all) & fit_model::plain(trials.earlier) & fit_model::plain(trials.later)
 }
 
 // A trial with its model's error on the own part.
-fn judged(previous: Sums, own: Sums, next: Sums, counts: Counts, model: Model, trial: Trial) -> Best
-    requires { Counted counts }
-    ensures { result ≡ judged_of (around previous own next counts) model trial }
+#[tactic(auto, unfolding(crate::specs::Judged::judged_of, rules::specs::Window::total))]
+fn judged(window: &Window, model: Model, trial: Trial) -> Best
+    ensures { result ≡ judged_of (around window.now) model trial }
 {
-    let before = fit_total::adds_previous(trial, counts.previous);
-    let after = fit_total::adds_next(trial, counts.next);
+    let own = window.own;
+    let added = window.counts.added(trial);
     Best {
         model,
-        error: fit_model::error(own, counts.here, model),
+        error: fit_model::error(own, window.counts.here, model),
         trial,
-        seen: fit_total::total(before, after, previous.apart, own.apart, next.apart),
+        seen: added.total(window.previous.apart, own.apart, window.next.apart),
     }
 }
 
 // The better of two trials.
+#[tactic(auto, unfolding(rules::specs::Window::better))]
 fn better(best: Best, later: Best) -> Best
     ensures { result ≡ better_of best later }
 {
@@ -112,53 +103,39 @@ fn better(best: Best, later: Best) -> Best
 }
 
 // The best of the three, in order.
-fn best(previous: Sums, own: Sums, next: Sums, counts: Counts, trials: Trials) -> Best
-    requires { Counted counts }
-    ensures { result ≡ best_of (around previous own next counts) trials }
+#[tactic(auto, unfolding(crate::specs::Judged::best_of))]
+fn best(window: &Window, trials: Trials) -> Best
+    ensures { result ≡ best_of (around window.now) trials }
 {
-    let first = trials.all;
-    let second = trials.earlier;
-    let third = trials.later;
-    let all = judged(previous, own, next, counts, first, Trial::All);
-    let earlier = judged(previous, own, next, counts, second, Trial::PreviousOwn);
-    let later = judged(previous, own, next, counts, third, Trial::OwnNext);
+    let all = judged(window, trials.all, Trial::All);
+    let earlier = judged(window, trials.earlier, Trial::PreviousOwn);
+    let later = judged(window, trials.later, Trial::OwnNext);
     better(better(all, earlier), later)
 }
 
 // The best trial, if it is found.
+#[tactic(auto, unfolding(rules::specs::Window::found))]
 fn found(same: f32, evidence: f32, best: Best) -> Found
     ensures { result ≡ found_of same evidence best }
 {
-    let model = best.model;
-    let trial = best.trial;
-    if plane::all(
-        best.error < 1.7 * same + 4.0,
-        !fit_model::plain(model),
-        evidence <= best.seen,
-    ) {
-        Found::At(model, trial)
+    let near = best.error < 1.7 * same + 4.0;
+    let shown = evidence <= best.seen;
+    if near & !fit_model::plain(best.model) & shown {
+        Found::At(best.model, best.trial)
     } else {
         Found::Nothing
     }
 }
 
 // The Rust's `pick`.
-pub fn pick(
-    previous: Sums,
-    own: Sums,
-    next: Sums,
-    counts: Counts,
-    limit: f32,
-    evidence: f32,
-    strict: bool,
-) -> Found
-    requires { Counted counts }
-    ensures { result ≡ pick_of (around previous own next counts) 0 limit evidence strict }
+pub fn pick(window: &Window, settings: Settings) -> Found
+    ensures { result ≡ pick_of (around window.now) 0 settings.limit settings.evidence settings.strict }
 {
-    let trials = models(previous, own, next, counts, limit, strict);
+    let trials = models(window, settings);
     if all_plain(trials) {
         return Found::Nothing;
     }
-    let same = (own.ii - 2.0 * own.pi + own.pp) / counts.here;
-    found(same, evidence, best(previous, own, next, counts, trials))
+    let own = window.own;
+    let same = (own.ii - 2.0 * own.pi + own.pp) / window.counts.here;
+    found(same, settings.evidence, best(window, trials))
 }

@@ -12,13 +12,15 @@ use Rattle.rules.specs.Forms.{Parts}
 use Rattle.rules.specs.Literals.{0·0}
 use Rattle.rules.specs.Model.{model, set}
 use Rattle.rules.specs.Window.{count, present, has_previous, has_next, sum, total, totals, tried, best, own_same, pick, strictly_set, window}
-use Rattle.plane.specs.Slices.{Slices, slice}
 use Rattle.calls.specs.Lent.{listed}
 use Rattle.fit_total.specs.declared.Counts.{Counts}
-use Rattle.fit_total.specs.Around.{luma_part, around, total_of}
+use Rattle.fit_total.specs.Counted.{luma_part}
+use Rattle.fit_total.specs.Around.{around, total_of}
 use Rattle.fit_total.specs.Alike.{entry_of}
 use Rattle.fit_total.proofs.Held.{held}
-use Rattle.fit_window.specs.Lent.{parts_lent, sums_at, sums_of}
+use Rattle.fit_window.specs.declared.Lent.{Lent}
+use Rattle.fit_window.specs.Lent.{parts_lent}
+use Rattle.fit_window.specs.Read.{sums_at, sums_of}
 
 -- six that are not looked at may be any
 unlooked : (b : Bool) (f : List Float → Bool) (x₀ x₁ x₂ x₃ x₄ x₅ : Float)
@@ -33,22 +35,25 @@ set_held pairs s at limit =
     unlooked (present (luma_part s pairs)) (λ t. set (model t (count (luma_part s pairs)) limit true))
     (sum at 0 (luma_part s pairs)) (sum at 1 (luma_part s pairs)) (sum at 2 (luma_part s pairs)) (sum at 3 (luma_part s pairs)) (sum at 4 (luma_part s pairs)) (sum at 5 (luma_part s pairs))
 
-module _ (sums : Slices Float) (c : Counts) (at : ℕ) where
+module _ (l : Lent) (at : ℕ) where
+  abbrev c : Counts
+  c = l.counts
+
   -- the parts, and those of the pixel
   abbrev whole : Parts
-  whole = parts_lent sums c
+  whole = parts_lent l
 
   abbrev previous : List Float
-  previous = slice sums 0
+  previous = l.luma.previous.now
 
   abbrev own : List Float
-  own = slice sums 3
+  own = l.luma.own.now
 
   abbrev next : List Float
-  next = slice sums 6
+  next = l.luma.next.now
 
   abbrev one : Parts
-  one = around (sums_of c.previous previous at) (sums_at own at) (sums_of c.next next at) c
+  one = around (record { previous = sums_of c.previous previous at; own = sums_at own at; next = sums_of c.next next at; counts = c })
 
   one_total : (t : Trial) (k : ℕ)
       → total_of (has_previous t && present whole.previous) (has_next t && present whole.next) (entry_of c.previous previous (at * 6 + k)) (get_or own (at * 6 + k) nan)

@@ -10,7 +10,7 @@ use Rattle.rules.specs.Forms.{Parts}
 use Rattle.rules.specs.Float.{◌≼◌}
 use Rattle.rules.specs.Window.{sum, total, tried, pick, window, or_else, strictly_set}
 use Rattle.fit_trial.proofs.Picked.{pick_hidden}
-use Rattle.fit_window.specs.Lent.{shown_of}
+use Rattle.fit_window.specs.Read.{shown_of}
 
 no_one : (a b c : Bool) → (a || b || c) ≡ false → (a ≡ false) × (b ≡ false) × (c ≡ false)
 no_one true b c h = ((cc), (cc), (cc))

@@ -1,72 +1,12 @@
--- Three parts as they are lent, and what is read of them.
-use Rattle.std.specs.Prelude.{Bool, ◌||◌, List, [], ◌∷◌, ℕ, ◌+◌, ◌*◌, ◌≤◌, length, get_or, Float}
-use Rattle.std.specs.Float.{nan}
-use Rattle.rules.specs.declared.Trial.{Trial}
-use Rattle.rules.specs.declared.Trial.TheVariants.{All, PreviousOwn, OwnNext}
+-- Three parts as they are lent.
 use Rattle.rules.specs.Forms.{Parts}
-use Rattle.rules.specs.Float.{◌≼◌}
-use Rattle.rules.specs.Window.{sum, total, chroma_offset}
 use Rattle.calls.specs.Lent.{part_of, parts_of}
-use Rattle.plane.specs.Slices.{Slices, slice, at}
-use Rattle.rules.specs.declared.Sums.{Sums}
-use Rattle.fit_total.specs.declared.Counts.{Counts}
-use Rattle.fit_total.specs.Around.{Counted}
-use Rattle.fit_total.specs.Alike.{Alike, entry_of}
-use Rattle.fit_window.specs.declared.Offsets.{Offsets}
+use Rattle.fit_window.specs.declared.Lent.{Lent}
 
--- three parts of three slices each
-abbrev pub parts_lent : (sums : Slices Float) → Counts → Parts
-parts_lent sums c =
+-- three parts of three planes each
+abbrev pub parts_lent : Lent → Parts
+parts_lent l =
     parts_of
-    (part_of (slice sums 0) (slice sums 1) (slice sums 2) c.previous)
-    (part_of (slice sums 3) (slice sums 4) (slice sums 5) c.own)
-    (part_of (slice sums 6) (slice sums 7) (slice sums 8) c.next)
-
--- the slices of one plane
-abbrev pub over : (sums : Slices Float) → (k : ℕ) → Slices Float
-over sums k = at sums k ∷ (at sums (k + 3) ∷ (at sums (k + 6) ∷ []))
-
--- what the readers ask: the counts are counted, and the neighbours' slices are as long as the own part's
-pub record AllAlike (c : Counts) (sums : Slices Float) : Type 0 where
-  pub counted : Counted c
-  pub luma : Alike c (over sums 0)
-  pub chroma1 : Alike c (over sums 1)
-  pub chroma2 : Alike c (over sums 2)
-  pub planes : length (slice sums 4) ≤ length (slice sums 5)
-
--- a part's six sums at a pixel
-abbrev pub sums_at : List Float → (at : ℕ) → Sums
-sums_at s at =
-    record {
-      p = get_or s (at * 6 + 0) nan;
-      i = get_or s (at * 6 + 1) nan;
-      pp = get_or s (at * 6 + 2) nan;
-      pi = get_or s (at * 6 + 3) nan;
-      ii = get_or s (at * 6 + 4) nan;
-      apart = get_or s (at * 6 + 5) nan;
-    }
-
--- those of a neighbour, if it is present
-abbrev pub sums_of : (pairs : ℕ) → List Float → (at : ℕ) → Sums
-sums_of pairs s at =
-    record {
-      p = entry_of pairs s (at * 6 + 0);
-      i = entry_of pairs s (at * 6 + 1);
-      pp = entry_of pairs s (at * 6 + 2);
-      pi = entry_of pairs s (at * 6 + 3);
-      ii = entry_of pairs s (at * 6 + 4);
-      apart = entry_of pairs s (at * 6 + 5);
-    }
-
--- whether the evidence figure is reached by a trial
-unfoldable pub shown_of : Parts → (at : ℕ) → (evidence : Float) → Bool
-shown_of ps at evidence =
-    (evidence ≼ total ps All (sum at 5)) || (evidence ≼ total ps PreviousOwn (sum at 5)) || (evidence ≼ total ps OwnNext (sum at 5))
-
--- a trial's chroma offsets at a chroma pixel
-abbrev pub offsets_of : Parts → Trial → (gain : Float) → (at : ℕ) → Offsets
-offsets_of ps trial gain at =
-    record {
-      first = chroma_offset ps trial gain (λ p. p.chroma.0) at;
-      second = chroma_offset ps trial gain (λ p. p.chroma.1) at;
-    }
+    (part_of l.luma.previous.now l.chroma1.previous.now l.chroma2.previous.now l.counts.previous)
+    (part_of l.luma.own.now l.chroma1.own.now l.chroma2.own.now l.counts.own)
+    (part_of l.luma.next.now l.chroma1.next.now l.chroma2.next.now l.counts.next)

@@ -1,37 +1,34 @@
 // What is found at a luma pixel of three lent parts, and the chroma offsets there.
-// The nine slices `sums` are luma's and those of planes 1 and 2 of the previous part, of the own and of the next.
 #![tactic(auto)]
 
 ghost use Rattle.std.specs.Prelude.{◌≡◌, ◌+◌, ◌*◌, ◌≤◌, length};
 ghost use Rattle.rules.specs.Window.{window as window_of, chroma_offset};
-ghost use Rattle.plane.specs.Slices.{slice};
-ghost use Rattle.fit_total.specs.Around.{luma_parts_in, Counted};
+ghost use Rattle.fit_total.specs.Around.{plane_parts};
 ghost use Rattle.fit_total.specs.Alike.{Long, Alike};
-ghost use Rattle.fit_window.specs.Lent.{parts_lent, AllAlike, sums_at, sums_of, shown_of, offsets_of};
+ghost use Rattle.fit_window.specs.Read.{sums_at, sums_of, shown_of, offsets_of};
 
-use fit_total::Counts;
+use fit_total::{Counts, Plane};
+use fit_trial::Settings;
 use rules::{Found, Sums, Trial};
 
+// Three parts as they are lent: their sums, plane by plane, and their counts.
+#[derive(Clone, Copy)]
+pub struct Lent<'l> {
+    pub luma: Plane<'l>,
+    pub chroma1: Plane<'l>,
+    pub chroma2: Plane<'l>,
+    pub counts: Counts,
+    pub ghost luma_alike: { Alike counts luma },
+    pub ghost chroma1_alike: { Alike counts chroma1 },
+    pub ghost chroma2_alike: { Alike counts chroma2 },
+    pub ghost as_long: { length chroma1.own.now ≤ length chroma2.own.now },
+}
+
 // The offsets of planes 1 and 2.
-#[derive(Drop)]
+#[derive(Clone, Copy)]
 pub struct Offsets {
     pub first: f32,
     pub second: f32,
-}
-
-// Whether a trial reaches the evidence figure: where none does, nothing is found.
-fn shown(luma: [&[f32]; 3], counts: Counts, at: usize, evidence: f32) -> bool
-    requires { Alike counts luma × (at * 6 + 6 ≤ length (slice luma 1)) }
-    ensures { result ≡ shown_of (luma_parts_in luma.entry counts) at evidence }
-{
-    let k = at * 6 + 5;
-    if evidence <= fit_total::total_at(luma, counts, Trial::All, k) {
-        return true;
-    }
-    if evidence <= fit_total::total_at(luma, counts, Trial::PreviousOwn, k) {
-        return true;
-    }
-    evidence <= fit_total::total_at(luma, counts, Trial::OwnNext, k)
 }
 
 // A part's six sums at a pixel.
@@ -69,49 +66,61 @@ fn sums_of(sums: &[f32], at: usize, pairs: usize) -> Sums
     }
 }
 
-// What is found at luma pixel `at`. The limit is squared already.
-pub fn window(
-    sums: [&[f32]; 9],
-    counts: Counts,
-    at: usize,
-    limit: f32,
-    evidence: f32,
-    strict: bool,
-) -> Found
-    requires { AllAlike counts sums × (at * 6 + 6 ≤ length (slice sums 3)) }
-    ensures { result ≡ window_of (parts_lent sums.entry counts) at limit evidence strict }
-{
-    let luma = [sums[0], sums[3], sums[6]];
-    if shown(luma, counts, at, evidence) {
-        let previous = sums_of(sums[0], at, counts.previous);
-        let own = sums_at(sums[3], at);
-        let next = sums_of(sums[6], at, counts.next);
-        fit_search::search(previous, own, next, counts, limit, evidence, strict)
-    } else {
-        Found::Nothing
-    }
-}
-
 // A trial's offset of one chroma plane at chroma pixel `at`.
-fn chroma_offset(slices: [&[f32]; 3], counts: Counts, trial: Trial, gain: f32, at: usize) -> f32
-    requires { Counted counts × Alike counts slices × (at * 2 + 2 ≤ length (slice slices 1)) }
-    ensures { result ≡ chroma_offset (luma_parts_in slices.entry counts) trial gain (λ p. p.luma) at }
+#[tactic(auto, unfolding(rules::specs::Window::chroma_offset, rules::specs::Window::total))]
+fn chroma_offset(counts: Counts, plane: Plane, trial: Trial, gain: f32, at: usize) -> f32
+    requires alike { Alike counts plane }
+    requires inside { at * 2 + 2 ≤ length plane.own.now }
+    ensures { result ≡ chroma_offset (plane_parts plane.entry counts) trial gain (λ p. p.luma) at }
 {
     let k = at * 2;
-    let first = fit_total::total_at(slices, counts, trial, k);
-    let second = fit_total::total_at(slices, counts, trial, k + 1);
-    (second - gain * first) / fit_total::samples(counts, trial)
+    let first = counts.total_at(plane, trial, k);
+    let second = counts.total_at(plane, trial, k + 1);
+    (second - gain * first) / counts.samples(trial)
 }
 
-// A trial's offsets at chroma pixel `at`.
-pub fn offsets_of(sums: [&[f32]; 9], counts: Counts, trial: Trial, gain: f32, at: usize) -> Offsets
-    requires { AllAlike counts sums × (at * 2 + 2 ≤ length (slice sums 4)) }
-    ensures { result ≡ offsets_of (parts_lent sums.entry counts) trial gain at }
-{
-    let chroma1 = [sums[1], sums[4], sums[7]];
-    let chroma2 = [sums[2], sums[5], sums[8]];
-    Offsets {
-        first: chroma_offset(chroma1, counts, trial, gain, at),
-        second: chroma_offset(chroma2, counts, trial, gain, at),
+impl Lent<'_> {
+    ghost use Rattle.fit_window.specs.Lent.{parts_lent};
+
+    // Whether a trial reaches the evidence figure: where none does, nothing is found.
+    #[tactic(auto, unfolding(crate::specs::Read::shown_of, rules::specs::Window::total))]
+    fn shown(&self, at: usize, evidence: f32) -> bool
+        requires { at * 6 + 6 ≤ length self.now.luma.own.now }
+        ensures { result ≡ shown_of (parts_lent self.now) at evidence }
+    {
+        let k = at * 6 + 5;
+        evidence <= self.counts.total_at(self.luma, Trial::All, k)
+            || evidence <= self.counts.total_at(self.luma, Trial::PreviousOwn, k)
+            || evidence <= self.counts.total_at(self.luma, Trial::OwnNext, k)
+    }
+
+    // What is found at luma pixel `at`. The limit is squared already.
+    pub fn window(&self, at: usize, settings: Settings) -> Found
+        requires { at * 6 + 6 ≤ length self.now.luma.own.now }
+        ensures { result ≡ window_of (parts_lent self.now) at settings.limit settings.evidence settings.strict }
+    {
+        if !self.shown(at, settings.evidence) {
+            return Found::Nothing;
+        }
+        let counts = self.counts;
+        let sums = fit_total::Window {
+            previous: sums_of(self.luma.previous, at, counts.previous),
+            own: sums_at(self.luma.own, at),
+            next: sums_of(self.luma.next, at, counts.next),
+            counts,
+        };
+        fit_search::search(&sums, settings)
+    }
+
+    // A trial's offsets at chroma pixel `at`.
+    #[tactic(auto, unfolding(rules::specs::Window::chroma_offset, rules::specs::Window::total))]
+    pub fn offsets_of(&self, trial: Trial, gain: f32, at: usize) -> Offsets
+        requires { at * 2 + 2 ≤ length self.now.chroma1.own.now }
+        ensures { result ≡ offsets_of (parts_lent self.now) trial gain at }
+    {
+        Offsets {
+            first: chroma_offset(self.counts, self.chroma1, trial, gain, at),
+            second: chroma_offset(self.counts, self.chroma2, trial, gain, at),
+        }
     }
 }

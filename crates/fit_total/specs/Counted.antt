@@ -1,0 +1,25 @@
+-- The samples of the parts and of the trials, by the pairs of the parts.
+use Rattle.std.specs.Prelude.{◌≡◌, List, [], ℕ, Float}
+use Rattle.rules.specs.declared.Trial.{Trial}
+use Rattle.rules.specs.declared.Trial.TheVariants.{All, PreviousOwn, OwnNext}
+use Rattle.rules.specs.Forms.{Part}
+use Rattle.rules.specs.Window.{count, total}
+use Rattle.calls.specs.Lent.{part_of, parts_of}
+
+-- a part with these luma sums
+abbrev pub luma_part : List Float → (pairs : ℕ) → Part
+luma_part luma pairs = part_of luma [] [] pairs
+
+-- the samples of a trial of parts with so many pairs
+abbrev pub samples_of : (previous own next : ℕ) → Trial → Float
+samples_of previous own next trial =
+    total (parts_of (luma_part [] previous) (luma_part [] own) (luma_part [] next)) trial count
+
+-- these floats are the samples of each part and of each trial
+pub record Counted (previous own next : ℕ) (before here after all earlier later : Float) : Type 0 where
+  pub before_is : before ≡ count (luma_part [] previous)
+  pub here_is : here ≡ count (luma_part [] own)
+  pub after_is : after ≡ count (luma_part [] next)
+  pub all_is : all ≡ samples_of previous own next All
+  pub earlier_is : earlier ≡ samples_of previous own next PreviousOwn
+  pub later_is : later ≡ samples_of previous own next OwnNext
