@@ -3,11 +3,13 @@ use mathlib.Core.Path.{◌≡◌, refl, sym}
 use mathlib.Core.Bool.{false≢true}
 use mathlib.Core.List.{List}
 use Prim.Native.Nat.{ℕ, ◌*◌}
-use borrow.Author.Tests.{ne_eqb}
+use Rattle.std.specs.Prelude.{Ok, Err}
+use Rattle.rules.specs.declared.Refusal.{Refusal}
+use Rattle.laws.proofs.Answered.{number_some}
 use lib.IntN.{ℤ}
 use lib.Ieee.{Float}
 use Rattle.rules.specs.Calls.{FitCall}
-use Rattle.rules.specs.Refusals.{fit_refusal}
+use Rattle.rules.specs.Refusals.{number_of, fit_refusal}
 use Rattle.rules.specs.Assembly.{model_slice, assembled}
 use Rattle.rules.specs.Fit.{rough, fit_models, fit_cover, fit_leaves}
 use Rattle.plane.specs.Slices.{Slices}
@@ -32,12 +34,12 @@ module _ (sums : Slices Float) (n : Numbers) (models : List Float) (kept cover :
   abbrev ratio : ℕ
   ratio = n.ratio
 
-  pub refused : (r : ℕ) → r ≡ fit_refusal call → (r ≡ 0 → ⊥) → FitAnswered call models kept cover luma first second (record { number = r; count = 0 })
+  pub refused : (r : Refusal) → number_of r ≡ fit_refusal call → FitAnswered call models kept cover luma first second (Err r)
   unfolding fit_leaves
-  refused r e some =
+  refused r e =
       record {
-        answer = rw e;
-        slices = rw (← e, ne_eqb r 0 some) (record { luma_is = refl; first_is = refl; second_is = refl });
+        answer = e;
+        slices = rw (← e, number_some r) (record { luma_is = refl; first_is = refl; second_is = refl });
         models_stay = λ f. refl;
         kept_stays = λ f. refl;
         cover_stays = λ f. refl;
@@ -60,11 +62,11 @@ module _ (sums : Slices Float) (n : Numbers) (models : List Float) (kept cover :
     stored luma' first' second' done = rw e (rw (sized, models_are, cover_is) at done)
 
   -- all is stored: the work slices are free
-  pub ran : (r : ℕ) → r ≡ fit_refusal call → r ≡ 0 → (models' : List Float) (kept' cover' : List ℕ) (luma' first' second' : List ℤ)
-      → Stored (fit_leaves call) luma' first' second' → FitAnswered call models' kept' cover' luma' first' second' (record { number = 0; count = 0 })
-  ran r e z models' kept' cover' luma' first' second' done =
+  pub ran : 0 ≡ fit_refusal call → (models' : List Float) (kept' cover' : List ℕ) (luma' first' second' : List ℤ)
+      → Stored (fit_leaves call) luma' first' second' → FitAnswered call models' kept' cover' luma' first' second' (Ok tt)
+  ran e models' kept' cover' luma' first' second' done =
       record {
-        answer = rw (← e, z);
+        answer = e;
         slices = done;
         models_stay = λ f. absurd (false≢true (sym f));
         kept_stays = λ f. absurd (false≢true (sym f));

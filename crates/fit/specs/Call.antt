@@ -1,10 +1,10 @@
 -- What fit asks for on the way, and what it leaves.
-use Rattle.std.specs.Prelude.{◌≡◌, false, List, ℕ, ◌*◌, ◌≤◌, ℤ, length, Float}
-use Rattle.rules.specs.declared.Answer.{Answer}
-use Rattle.rules.specs.Forms.{Part, Parts, uncounted, tabulate, cells}
+use Rattle.std.specs.Prelude.{◌≡◌, false, List, ℕ, ◌*◌, ◌≤◌, ℤ, length, Float, Result}
+use Rattle.rules.specs.declared.Refusal.{Refusal}
+use Rattle.rules.specs.Forms.{Part, Parts, tabulate, cells}
 use Rattle.rules.specs.Float.{◌⊗◌}
 use Rattle.rules.specs.Calls.{FitCall}
-use Rattle.rules.specs.Refusals.{fit_refusal}
+use Rattle.rules.specs.Refusals.{numbered, fit_refusal}
 use Rattle.rules.specs.Model.{Fitted}
 use Rattle.rules.specs.Window.{window, chroma_at, fitted}
 use Rattle.rules.specs.Keeping.{cover, kept_models}
@@ -47,9 +47,9 @@ pub record Modelled (parts : Parts) (g : Sizes) (s : Settings) (models : List Fl
   pub cover_is : cells' ≡ distances (cover (rough_of parts g s) (g.width, g.height)) (cells g.width)
 
 -- what fit answers and leaves: the work slices are free where `frees_work` says so
-pub record FitAnswered (c : FitCall) (models : List Float) (kept cells' : List ℕ) (luma first second : List ℤ) (r : Answer) : Type 0 where
-  pub answer : r ≡ uncounted (fit_refusal c)
+pub record FitAnswered (c : FitCall) (models : List Float) (kept cells' : List ℕ) (luma first second : List ℤ) (r : Result Unit Refusal) : Type 0 where
+  pub answer : numbered r ≡ fit_refusal c
   pub slices : Stored (fit_leaves c) luma first second
-  pub models_stay : frees_work r.number ≡ false → models ≡ c.models
-  pub kept_stays : frees_work r.number ≡ false → kept ≡ c.kept
-  pub cover_stays : frees_work r.number ≡ false → cells' ≡ c.cover
+  pub models_stay : frees_work (numbered r) ≡ false → models ≡ c.models
+  pub kept_stays : frees_work (numbered r) ≡ false → kept ≡ c.kept
+  pub cover_stays : frees_work (numbered r) ≡ false → cells' ≡ c.cover

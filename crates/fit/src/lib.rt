@@ -12,8 +12,10 @@ ghost use Rattle.fit.specs.Call.{Asks, Modelled, FitAnswered};
 
 use assemble_offsets::Sizes;
 use fit_refuse::Numbers;
+use fit_total::Plane;
 use fit_trial::Settings;
-use rules::Answer;
+use fit_window::Lent;
+use rules::Refusal;
 
 // The models and the cover: searched, kept, and with distances.
 fn fitted(
@@ -28,17 +30,32 @@ fn fitted(
     requires { Asks (parts_by sums pairs) sizes models.old kept.old cover.old }
     ensures { Modelled (parts_by sums.entry pairs) sizes settings models.new cover.new }
 {
-    let counts = fit_total::counts_of(pairs[0], pairs[1], pairs[2]);
-    let limit = settings.limit;
-    let squared = Settings {
-        limit: limit * limit,
-        evidence: settings.evidence,
-        strict: settings.strict,
+    let lent = Lent {
+        luma: Plane {
+            previous: sums[0],
+            own: sums[3],
+            next: sums[6],
+        },
+        chroma1: Plane {
+            previous: sums[1],
+            own: sums[4],
+            next: sums[7],
+        },
+        chroma2: Plane {
+            previous: sums[2],
+            own: sums[5],
+            next: sums[8],
+        },
+        counts: fit_total::counts_of(pairs[0], pairs[1], pairs[2]),
     };
-    fit_rough::fit_rows(models, kept, sums, counts, sizes, squared);
-    let width = sizes.width;
-    fit_keep::keep(models, kept, cover, width, sizes.height);
-    distances::distances(cover, table::cells(width));
+    let squared = Settings {
+        limit: settings.limit * settings.limit,
+        ..settings
+    };
+    fit_rough::fit_rows(models, kept, &lent, sizes, squared);
+    fit_keep::keep(models, kept, cover, sizes.width, sizes.height);
+    // some cell lies along each side: the distances are not refused
+    let _ = distances::distances(cover, table::cells(sizes.width));
 }
 
 // Fits what is not refused.
@@ -73,18 +90,12 @@ pub fn fit(
     chroma2: &mut [i16],
     sums: [&[f32]; 9],
     numbers: Numbers,
-) -> Answer
+) -> Result<(), Refusal>
     ensures { FitAnswered (fit_by sums.entry numbers models.old kept.old cover.old
         (fit_of luma.old chroma1.old chroma2.old))
         models.new kept.new cover.new luma.new chroma1.new chroma2.new result }
 {
-    let number = fit_refuse::refusal(models, kept, cover, luma, chroma1, chroma2, sums, numbers);
-    if number != 0 {
-        return Answer { number, count: 0 };
-    }
+    fit_refuse::tested(models, kept, cover, luma, chroma1, chroma2, sums, numbers)?;
     made(models, kept, cover, luma, chroma1, chroma2, sums, numbers);
-    Answer {
-        number: 0,
-        count: 0,
-    }
+    Ok(())
 }

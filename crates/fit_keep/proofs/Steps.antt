@@ -1,18 +1,17 @@
 -- One step of the keeping pass, by column and row. Assumes nothing.
-use mathlib.Core.Path.{◌≡◌, ◌∙◌}
+use mathlib.Core.Path.{◌≡◌}
 use mathlib.Core.List.{List}
 use Prim.Native.Nat.{ℕ, ◌+◌, ◌*◌, ◌/◌, ◌<◌}
 use native.Mathlib.Nat.{mul_comm}
 use native.Mathlib.Omega.{arith}
 use borrow.Author.Tests.{eq-eqb, ne_eqb}
 use lib.Arith.{digits_div, digits_lt, digits_mod}
-use lib.ListN.{length, get_or}
-use lib.Ieee.{Float}
+use lib.ListN.{get_or}
 use Rattle.rules.specs.Forms.{cells}
 use Rattle.rules.specs.Model.{Fitted}
 use Rattle.rules.specs.Keeping.{cell_of}
 use Rattle.fit_near.specs.Verdict.{verdict_of}
-use Rattle.fit_keep.specs.Pass.{marked, step, Sound}
+use Rattle.fit_keep.specs.Pass.{marked, step}
 
 -- nothing was found there
 pub step_none : (rough : List Fitted) (size : ℕ × ℕ) (at : ℕ) (s : List ℕ × List ℕ) → get_or s.0 at 0 ≡ 0 → s ≡ step rough size at s
@@ -36,15 +35,3 @@ few x width h = omega arith
 pub cell_in : (width height x y : ℕ) → x < width → y < height → y / 8 * cells width + x / 8 < cells width * cells height
 cell_in width height x y left above =
     omega (arith, digits_lt (few y height above) (few x width left), mul_comm (cells height) (cells width))
-
--- slices of the same lengths
-pub still_sound : {models : List Float} {kept₀ cover₀ kept cover : List ℕ} {width height : ℕ} → Sound models kept₀ cover₀ width height
-    → length kept ≡ length kept₀ → length cover ≡ length cover₀ → Sound models kept cover width height
-still_sound s e f =
-    record {
-      wide = s.wide;
-      tall = s.tall;
-      models_long = s.models_long;
-      kept_long = e ∙ s.kept_long;
-      cover_long = f ∙ s.cover_long;
-    }

@@ -34,6 +34,11 @@ reset_step kept at s = cond (eqb (get_or kept at 0) 2) (model_put s at 1·0 0·0
 
 -- ---- what is asked and left
 
+-- a kept byte for each pixel, and the cells
+pub record Work (kept cells' : List ℕ) (width height : ℕ) : Type 0 where
+  pub kept_long : length kept ≡ width * height
+  pub cover_long : length cells' ≡ cells width * cells height
+
 -- work slices of these sizes
 pub record Sound (models : List Float) (kept cells' : List ℕ) (width height : ℕ) : Type 0 where
   pub wide : width ≤ 4096

@@ -1,12 +1,13 @@
 -- One pixel of a model slice, by its column and row. Assumes nothing.
-use mathlib.Core.Path.{◌≡◌, ap}
+use mathlib.Core.Path.{◌≡◌, refl, ap}
 use mathlib.Core.Bool.{Bool, true, false, cond}
 use mathlib.Core.List.{List}
 use Prim.Native.Nat.{ℕ, ◌+◌, ◌*◌, ◌≤◌, ◌<◌}
-use native.Mathlib.Nat.{mul_comm}
+use native.Mathlib.Nat.{mul_comm, add-zero}
 use native.Mathlib.Omega.{arith}
 use lib.Arith.{digits_div, digits_lt, digits_mod}
 use lib.Dec.{leb}
+use mir.Val.{bool_byte}
 use lib.Ieee.{Float}
 use Rattle.rules.specs.declared.Model.{Model}
 use Rattle.rules.specs.Model.{Fitted, set, is_plain}
@@ -25,6 +26,10 @@ module _ (models : List Float) (width height x y : ℕ) (left : x < width) (abov
   model_is = ap (λ (m : Fitted). m.model) (model_at_lem models (width * height) (y * width + x) pixel_in)
 
 -- one more, or not
+pub one_more : (b : Bool) (n : ℕ) → n + bool_byte b ≡ cond b (n + 1) n
+one_more true n = refl
+one_more false n = add-zero n
+
 pub few : (b : Bool) (n m : ℕ) → n ≤ m → cond b (n + 1) n ≤ m + 1
 few true n m h = omega arith
 few false n m h = omega arith

@@ -1,18 +1,10 @@
--- What becomes of a pixel, and what is asked to tell.
-use Rattle.std.specs.Prelude.{◌≡◌, cond, List, ℕ, ◌+◌, ◌*◌, ◌/◌, ◌%◌, ◌≤◌, ◌<◌, leb, length, Float}
+-- What becomes of a pixel.
+use Rattle.std.specs.Prelude.{cond, List, ℕ, ◌+◌, ◌*◌, ◌/◌, ◌%◌, leb}
 use Rattle.rules.specs.Forms.{how_many}
 use Rattle.rules.specs.Model.{Fitted, set, is_plain}
 use Rattle.rules.specs.Keeping.{beside, model_of, near}
 use Rattle.fit_near.specs.declared.Verdict.{Verdict}
 use Rattle.fit_near.specs.declared.Verdict.TheVariants.{Dropped, Unmarked, Marked}
-
--- a pixel of a model slice of these sizes
-pub record Held (models : List Float) (width height x y : ℕ) : Type 0 where
-  pub wide : width ≤ 4096
-  pub tall : height ≤ 4096
-  pub long : length models ≡ 4 * (width * height)
-  pub left : x < width
-  pub above : y < height
 
 -- "A set pixel is kept if at least 3 .. are set", "Other models but (1, 0) are kept without that test", "Each kept set
 -- pixel marks its .. cell"

@@ -1,17 +1,17 @@
 // Keeping, at one pixel: how many of its neighbours are set, and what becomes of it.
 #![tactic(auto)]
 
-ghost use Rattle.std.specs.Prelude.{◌≡◌, cond, ◌+◌, ◌*◌, ◌/◌, ◌%◌, ◌<◌, ◌≤◌, length};
+ghost use Rattle.std.specs.Prelude.{◌≡◌, ◌+◌, ◌*◌, ◌/◌, ◌%◌, ◌<◌, ◌≤◌, length};
 ghost use Rattle.rules.specs.Model.{set};
 ghost use Rattle.rules.specs.Keeping.{beside as beside_of, model_of, near as near_of};
 ghost use Rattle.rules.specs.Assembly.{model_slice};
 ghost use Rattle.table.specs.Models.{model_at};
-ghost use Rattle.fit_near.specs.Verdict.{Held, verdict_of};
+ghost use Rattle.fit_near.specs.Verdict.{verdict_of};
 
 use rules::Model;
 
 // What becomes of a pixel.
-#[derive(Drop)]
+#[derive(Clone, Copy)]
 pub enum Verdict {
     // it is not kept
     Dropped,
@@ -19,6 +19,17 @@ pub enum Verdict {
     Unmarked,
     // it is kept, and marks its cell
     Marked,
+}
+
+// The rough models of a plane.
+#[derive(Clone, Copy)]
+pub struct Rough<'r> {
+    pub models: &'r [f32],
+    pub width: usize,
+    pub height: usize,
+    pub ghost wide: { width ≤ 4096 },
+    pub ghost tall: { height ≤ 4096 },
+    pub ghost long: { length models.now ≡ 4 * (width * height) },
 }
 
 // The model of luma pixel `at`.
@@ -34,62 +45,63 @@ fn model_at(models: &[f32], at: usize) -> Model
 
 // Column or row k, moved by side - 1 and clamped.
 fn beside(k: usize, side: usize, size: usize) -> usize
-    requires { (k < size) × (size ≤ 4096) × (side ≤ 2) }
-    ensures { (result ≡ beside_of k side size) × (result < size) }
+    requires inside { k < size }
+    requires small { size ≤ 4096 }
+    requires near { side ≤ 2 }
+    ensures moved { result ≡ beside_of k side size }
+    ensures inside { result < size }
 {
-    let moved = k + side;
-    if moved == 0 {
-        return 0;
+    (k + side).saturating_sub(1).min(size - 1)
+}
+
+impl Rough<'_> {
+    // Whether neighbour `side` of a pixel, of 0 to 8, is set.
+    fn is_set(&self, x: usize, y: usize, side: usize) -> bool
+        requires left { x < self.now.width }
+        requires above { y < self.now.height }
+        requires nine { side < 9 }
+        ensures { result
+            ≡ set (model_of (model_slice self.now.models.now (self.now.width * self.now.height))
+            (beside_of y (side / 3) self.now.height * self.now.width + beside_of x (side % 3) self.now.width)) }
+    {
+        let row = beside(y, side / 3, self.height);
+        let column = beside(x, side % 3, self.width);
+        fit_model::set(model_at(self.models, plane::place(row, self.width, column)))
     }
-    if moved <= size { moved - 1 } else { size - 1 }
-}
 
-// Whether neighbour `side` of a pixel, of 0 to 8, is set.
-fn is_set(models: &[f32], width: usize, height: usize, x: usize, y: usize, side: usize) -> bool
-    requires { Held models.now width height x y × (side < 9) }
-    ensures { result ≡ set (model_of (model_slice models.now (width * height)) (beside_of y (side / 3) height * width + beside_of x (side % 3) width)) }
-{
-    let row = beside(y, side / 3, height);
-    let column = beside(x, side % 3, width);
-    fit_model::set(model_at(models, plane::place(row, width, column)))
-}
-
-// One more, if it is to be added.
-fn counted(count: usize, adds: bool) -> usize
-    requires { count < 9 }
-    ensures { result ≡ cond adds (count + 1) count }
-{
-    if adds { count + 1 } else { count }
-}
-
-// How many of its nine neighbours are set.
-fn near(models: &[f32], width: usize, height: usize, x: usize, y: usize) -> usize
-    requires { Held models.now width height x y }
-    ensures { result ≡ near_of (model_slice models.now (width * height)) (width, height) x y }
-{
-    let mut count = 0;
-    let mut side = 0;
-    while side < 9 {
-        count = counted(count, is_set(models, width, height, x, y, side));
-        side += 1;
-    }
-    count
-}
-
-// What becomes of a pixel.
-pub fn verdict_at(models: &[f32], width: usize, height: usize, x: usize, y: usize) -> Verdict
-    requires { Held models.now width height x y }
-    ensures { result ≡ verdict_of (model_slice models.now (width * height)) (width, height) (y * width + x) }
-{
-    let model = model_at(models, plane::place(y, width, x));
-    if fit_model::set(model) {
-        if 3 <= near(models, width, height, x, y) {
-            return Verdict::Marked;
+    // How many of a pixel's nine neighbours are set.
+    fn near(&self, x: usize, y: usize) -> usize
+        requires left { x < self.now.width }
+        requires above { y < self.now.height }
+        ensures { result
+            ≡ near_of (model_slice self.now.models.now (self.now.width * self.now.height)) (self.now.width, self.now.height) x y }
+    {
+        let mut count = 0;
+        for side in 0..9 {
+            count += usize::from(self.is_set(x, y, side));
         }
-        return Verdict::Dropped;
+        count
     }
-    if fit_model::plain(model) {
-        return Verdict::Dropped;
+
+    // What becomes of a pixel.
+    pub fn verdict_at(&self, x: usize, y: usize) -> Verdict
+        requires left { x < self.now.width }
+        requires above { y < self.now.height }
+        ensures { result
+            ≡ verdict_of (model_slice self.now.models.now (self.now.width * self.now.height)) (self.now.width, self.now.height)
+            (y * self.now.width + x) }
+    {
+        let model = model_at(self.models, plane::place(y, self.width, x));
+        if fit_model::set(model) {
+            if 3 <= self.near(x, y) {
+                Verdict::Marked
+            } else {
+                Verdict::Dropped
+            }
+        } else if fit_model::plain(model) {
+            Verdict::Dropped
+        } else {
+            Verdict::Unmarked
+        }
     }
-    Verdict::Unmarked
 }

@@ -5,11 +5,12 @@
 ghost use Rattle.std.specs.Prelude.{◌≡◌};
 ghost use Rattle.rules.specs.Forms.{Parts};
 ghost use Rattle.rules.specs.Domain.{are_sums};
-ghost use Rattle.rules.specs.Refusals.{Table, first_fitting, is_neighbour, work_rows, fit_refusal};
+ghost use Rattle.rules.specs.Refusals.{Table, numbered, number_or, first_fitting, is_neighbour, work_rows, fit_refusal};
 ghost use Rattle.calls.specs.Lent.{part_of, fit_of};
 ghost use Rattle.fit_refuse.specs.Call.{fit_with, fit_by, count_rows};
 
 use fit_trial::Settings;
+use rules::Refusal;
 
 // The numbers of a call: luma's size, the ratio, the pairs of the three parts, and what is looked for.
 #[derive(Clone, Copy)]
@@ -55,28 +56,21 @@ fn neighbour(
 ) -> bool
     ensures { result ≡ is_neighbour (part_of luma.now chroma1.now chroma2.now pairs) (width, height) ratio }
 {
-    if pairs == 0 {
-        return true;
-    }
-    summed(luma, chroma1, chroma2, width, height, ratio)
+    pairs == 0 || summed(luma, chroma1, chroma2, width, height, ratio)
 }
 
-// The number of pairs above 12, or of an own part without any, or 0.
-fn counts(pairs: [usize; 3]) -> u8
-    ensures { result ≡ first_fitting (count_rows pairs) }
+// The last rows of the table: pairs above 12, and an own part without any.
+#[tactic(auto, unfolding(rules::specs::Refusals::first_fitting))]
+fn counted(pairs: [usize; 3]) -> Result<(), Refusal>
+    ensures { numbered result ≡ first_fitting (count_rows pairs) }
 {
-    let before = pairs[0];
-    let own = pairs[1];
-    let after = pairs[2];
-    let some = plane::both(1 <= own, own <= 12);
-    plane::unless(
-        7,
-        before <= 12,
-        plane::unless(7, some, plane::unless(7, after <= 12, 0)),
-    )
+    plane::ensure(pairs[0] <= 12, Refusal::Pairs)?;
+    plane::ensure((1..=12).contains(&pairs[1]), Refusal::Pairs)?;
+    plane::ensure(pairs[2] <= 12, Refusal::Pairs)
 }
 
-// The number of a work slice or an output of a wrong length, or of a setting outside its range, or else `rest`.
+// The rows of work slices and outputs of a wrong length, and of settings outside their ranges.
+#[tactic(auto, unfolding(rules::specs::Refusals::first_fitting))]
 pub fn works(
     models: &[f32],
     kept: &[u8],
@@ -85,19 +79,22 @@ pub fn works(
     chroma1: &[i16],
     chroma2: &[i16],
     numbers: Numbers,
-    rest: u8,
-) -> u8
-    ensures { (parts : Parts) (rows : Table) → rest ≡ first_fitting rows
-        → result ≡ first_fitting (work_rows (fit_with parts numbers models.now kept.now cover.now
-        (fit_of luma.now chroma1.now chroma2.now)) rows) }
+) -> Result<(), Refusal>
+    ensures { (parts : Parts) (rows : Table)
+        → first_fitting (work_rows (fit_with parts numbers models.now kept.now cover.now
+        (fit_of luma.now chroma1.now chroma2.now)) rows)
+        ≡ number_or result (first_fitting rows) }
 {
     let width = numbers.width;
     let height = numbers.height;
     let settings = numbers.settings;
-    let first = plane::exact(models.len(), 4, width, height);
-    let second = plane::is_product(kept.len(), width, height);
-    let third = table::exact_cover(cover.len(), width, height);
-    let fourth = plane::exact_planes(
+    let modelled = plane::exact(models.len(), 4, width, height);
+    plane::ensure(modelled, Refusal::Length)?;
+    let flagged = plane::is_product(kept.len(), width, height);
+    plane::ensure(flagged, Refusal::Length)?;
+    let covered = table::exact_cover(cover.len(), width, height);
+    plane::ensure(covered, Refusal::Length)?;
+    let room = plane::exact_planes(
         luma.len(),
         chroma1.len(),
         chroma2.len(),
@@ -106,15 +103,15 @@ pub fn works(
         height,
         numbers.ratio,
     );
-    let limit = plane::within(settings.limit, 0.5, 255.0);
-    let evidence = plane::within(settings.evidence, 0.0, 65536.0);
-    let ranges = plane::unless(6, limit, plane::unless(6, evidence, rest));
-    let lengths = plane::unless(4, third, plane::unless(4, fourth, ranges));
-    plane::unless(4, first, plane::unless(4, second, lengths))
+    plane::ensure(room, Refusal::Length)?;
+    plane::ensure(plane::within(settings.limit, 0.5, 255.0), Refusal::Setting)?;
+    let evident = plane::within(settings.evidence, 0.0, 65536.0);
+    plane::ensure(evident, Refusal::Setting)
 }
 
-// The number of the refusal, or 0.
-pub fn refusal(
+// The tests of fit, in the order of the table.
+#[tactic(auto, unfolding(rules::specs::Refusals::fit_refusal, rules::specs::Refusals::first_fitting))]
+pub fn tested(
     models: &[f32],
     kept: &[u8],
     cover: &[u8],
@@ -123,27 +120,23 @@ pub fn refusal(
     chroma2: &[i16],
     sums: [&[f32]; 9],
     numbers: Numbers,
-) -> u8
-    ensures { result ≡ fit_refusal (fit_by sums.entry numbers models.now kept.now cover.now
+) -> Result<(), Refusal>
+    ensures { numbered result
+        ≡ fit_refusal (fit_by sums.entry numbers models.now kept.now cover.now
         (fit_of luma.now chroma1.now chroma2.now)) }
 {
     let width = numbers.width;
     let height = numbers.height;
     let ratio = numbers.ratio;
     let pairs = numbers.pairs;
-    let first = neighbour(sums[0], sums[1], sums[2], pairs[0], width, height, ratio);
-    let second = summed(sums[3], sums[4], sums[5], width, height, ratio);
-    let third = neighbour(sums[6], sums[7], sums[8], pairs[2], width, height, ratio);
-    let last = counts(pairs);
-    let rest = works(models, kept, cover, luma, chroma1, chroma2, numbers, last);
-    let parts = plane::unless(
-        4,
-        first,
-        plane::unless(4, second, plane::unless(4, third, rest)),
-    );
-    plane::unless(
-        1,
-        plane::sizes(width, height),
-        plane::unless(2, plane::ratioed(ratio, width, height), parts),
-    )
+    plane::ensure(plane::sizes(width, height), Refusal::Size)?;
+    plane::ensure(plane::ratioed(ratio, width, height), Refusal::Ratio)?;
+    let previous = neighbour(sums[0], sums[1], sums[2], pairs[0], width, height, ratio);
+    plane::ensure(previous, Refusal::Length)?;
+    let own = summed(sums[3], sums[4], sums[5], width, height, ratio);
+    plane::ensure(own, Refusal::Length)?;
+    let next = neighbour(sums[6], sums[7], sums[8], pairs[2], width, height, ratio);
+    plane::ensure(next, Refusal::Length)?;
+    works(models, kept, cover, luma, chroma1, chroma2, numbers)?;
+    counted(pairs)
 }

@@ -4,20 +4,17 @@ use mathlib.Core.List.{List}
 use Prim.Native.Nat.{ℕ, ◌+◌, ◌*◌, ◌/◌, ◌<◌}
 use native.Mathlib.Nat.{div-lt_iff_lt-mul}
 use lib.Arith.{digits_div, digits_mod}
-use lib.ListN.{length}
 use lib.Ieee.{Float}
 use Rattle.rules.specs.declared.Found.TheVariants.{At, Nothing}
 use Rattle.rules.specs.declared.Model.{Model}
 use Rattle.rules.specs.declared.Trial.{Trial}
 use Rattle.rules.specs.Forms.{Parts}
 use Rattle.rules.specs.Window.{window, chroma_at, fitted}
-use Rattle.plane.specs.Slices.{Slices}
 use Rattle.fit_trial.specs.declared.Settings.{Settings}
-use Rattle.fit_total.specs.declared.Counts.{Counts}
 use Rattle.assemble_offsets.specs.declared.Sizes.{Sizes}
 use Rattle.assemble_offsets.specs.Sizes.{Formed}
 use Rattle.laws.proofs.Lists.{place_in}
-use Rattle.fit_rough.specs.Search.{passed_over, found_put, search, Searching}
+use Rattle.fit_rough.specs.Search.{passed_over, found_put, search}
 
 -- the chroma pixel of column x and row y
 module _ (g : Sizes) (f : Formed g) (x y : ℕ) (left : x < g.width) (above : y < g.height) where
@@ -46,17 +43,3 @@ module _ (parts : Parts) (g : Sizes) (settings : Settings) (at here : ℕ) (at-i
       → after ≡ search parts g settings here s
   unfolding search
   one_found m trial e put = put ∙ sym (rw (← at-is, e))
-
--- slices of the same lengths
-pub still_searching : {c : Counts} {sums : Slices Float} {g : Sizes} {models₀ models : List Float} {kept₀ kept : List ℕ}
-    → Searching c sums g models₀ kept₀ → length models ≡ length models₀ → length kept ≡ length kept₀
-    → Searching c sums g models kept
-still_searching s e f =
-    record {
-      formed = s.formed;
-      ready = s.ready;
-      own_long = s.own_long;
-      chroma_long = s.chroma_long;
-      models_long = e ∙ s.models_long;
-      kept_long = f ∙ s.kept_long;
-    }

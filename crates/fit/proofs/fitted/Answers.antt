@@ -1,12 +1,10 @@
--- `fit::fitted` meets its contract. Assumes nothing.
-use Rattle.fit.proofs.Parts.{searching, modelled}
+-- What is left to answer of `fit::fitted`'s goals.
+use Rattle.fit.proofs.Parts.{lent_is, modelled}
 use Rattle.fit.proofs.fitted.Goals as goal
-
-pub fit_rows-requires : goal.fit_rows-requires
-fit_rows-requires c = searching c.args.sums c.args.pairs _ c.counts_of-counts.ensures _ _ _ _ c.requires
 
 pub returns : goal.returns
 returns c =
     let a = c.args in
-    modelled a.sums a.pairs _ c.counts_of-counts.ensures _ _ _ _ c.requires a.settings _ _ _ _ _ _
-    c.fit_rows.ensures c.keep.ensures (rw c.cells.ensures at c.distances.ensures)
+    let n = c.counts_of.ensures in
+    modelled a.sums a.pairs c.counts_of.result n.before n.here n.after _ _ _ _ c.requires a.settings _ _ _ _ _ _
+    _ (lent_is a.sums a.pairs c.counts_of.result n.before n.here n.after) c.fit_rows.ensures c.keep.ensures (rw c.cells.ensures at c.distances.ensures)

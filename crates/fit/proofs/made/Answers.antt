@@ -1,4 +1,4 @@
--- `fit::made` meets its contract. Assumes nothing.
+-- What is left to answer of `fit::made`'s goals.
 use Rattle.fit.proofs.Runs.{asks, assembles}
 use Rattle.fit.proofs.Whole.{stored}
 use Rattle.fit.proofs.made.Goals as goal
@@ -9,7 +9,8 @@ fitted-requires c = rw c.sizes_of-sizes.ensures (asks c.args.sums c.args.numbers
 pub store-requires : goal.store-requires
 store-requires c =
     let f = c.fitted in
-    rw c.sizes_of-sizes.ensures (assembles c.args.sums c.args.numbers _ _ _ _ _ _ c.requires f.new.models f.new.cover f.auto.models f.auto.cover)
+    let r = assembles c.args.sums c.args.numbers _ _ _ _ _ _ c.requires f.new.models f.new.cover f.auto.models f.auto.cover in
+    rw c.sizes_of-sizes.ensures (record { source = r.0; room = r.1 })
 
 pub returns : goal.returns
 returns c =

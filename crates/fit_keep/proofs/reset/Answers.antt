@@ -1,22 +1,19 @@
--- `fit_keep::reset` meets its contract. Assumes nothing.
-use mathlib.Core.Path.{refl, ◌∙◌}
-use native.Mathlib.Nat.{le_antisymm}
-use native.Mathlib.Omega.{arith}
+-- What is left to answer of `fit_keep::reset`'s goals.
+use mathlib.Core.Path.{refl, sym, ◌∙◌}
+use borrow.Author.Tests.{eq-eqb, ne_eqb}
 use Rattle.rules.specs.Forms.{turns}
 use Rattle.table.proofs.Turns.{turns_more}
+use Rattle.fit_keep.specs.Pass.{reset_step}
 use Rattle.fit_keep.proofs.reset.Goals as goal
+use Rattle.fit_keep.proofs.reset.Goals.{then-byte-eq2, else-byte-eq2}
 
 pub loop-at-init : goal.loop-at-init
 unfolding turns
-loop-at-init c = (refl, omega arith, refl)
+loop-at-init c = refl
 
 pub loop-at-preserved : goal.loop-at-preserved
-loop-at-preserved c =
-    let pixel = c.reset_pixel in
-    let inv = c.loop-at.invariant in
-    (turns_more _ _ _ _ _ inv.0 pixel.ensures, omega arith, pixel.auto.models ∙ inv.2)
-
-pub returns : goal.returns
-returns c =
-    let at-loop = c.loop-at in
-    rw (le_antisymm at-loop.invariant.1 c.loop-at-test.false) at at-loop.invariant.0
+unfolding reset_step
+loop-at-preserved c = turns_more _ _ _ _ _ c.loop-at.invariant (elim c.if-byte-eq2.branch [
+  | then-byte-eq2 w ↦ w.models-is ∙ w.put_model.ensures ∙ sym (simp (eq-eqb _ _ w.if-byte-eq2.true))
+  | else-byte-eq2 w ↦ w.models-is ∙ sym (simp (ne_eqb _ _ w.if-byte-eq2.false))
+])

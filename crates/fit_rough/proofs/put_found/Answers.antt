@@ -1,4 +1,4 @@
--- `fit_rough::put_found` meets its contract. Assumes nothing.
+-- What is left to answer of `fit_rough::put_found`'s goals.
 use Prim.Native.Nat.{◌<◌, ◌*◌}
 use native.Mathlib.Omega.{arith}
 use Rattle.rules.specs.Window.{fitted}
@@ -9,23 +9,25 @@ use Rattle.fit_rough.proofs.put_found.Goals as goal
 pub offsets_of-offsets-requires : goal.offsets_of-offsets-requires
 offsets_of-offsets-requires c =
     let a = c.args in
-    let q = c.requires.0 in
-    (q.ready, omega (arith, c.place-spot.ensures, spot_in a.sizes q.formed a.pixel.x a.pixel.y c.requires.1 c.requires.2, q.chroma_long))
+    let q = c.requires.searching in
+    omega (arith, c.place-spot.ensures, spot_in a.sizes q.formed a.x a.y c.requires.left c.requires.above, q.chroma_long)
 
 pub put_model-requires : goal.put_model-requires
 put_model-requires c =
     let a = c.args in
-    let inside : c.place-at.result < a.sizes.width * a.sizes.height = rw c.place-at.ensures (pixel_in a.sizes c.requires.0.formed a.pixel.x a.pixel.y c.requires.1 c.requires.2) in
-    omega (arith, inside, c.requires.0.models_long)
+    let q = c.requires.searching in
+    let inside : c.place-at.result < a.sizes.width * a.sizes.height = rw c.place-at.ensures (pixel_in a.sizes q.formed a.x a.y c.requires.left c.requires.above) in
+    omega (arith, inside, q.models_long)
 
 pub bounds-kept-at : goal.bounds-kept-at
 bounds-kept-at c =
     let a = c.args in
-    let inside : c.place-at.result < a.sizes.width * a.sizes.height = rw c.place-at.ensures (pixel_in a.sizes c.requires.0.formed a.pixel.x a.pixel.y c.requires.1 c.requires.2) in
-    omega (arith, inside, c.requires.0.kept_long)
+    let q = c.requires.searching in
+    let inside : c.place-at.result < a.sizes.width * a.sizes.height = rw c.place-at.ensures (pixel_in a.sizes q.formed a.x a.y c.requires.left c.requires.above) in
+    omega (arith, inside, q.kept_long)
 
 pub returns : goal.returns
 unfolding found_put fitted
 returns c =
     let a = c.args in
-    rw (c.put_model.ensures, c.offsets_of-offsets.ensures, c.place-spot.ensures, c.place-at.ensures, spot_is a.sizes c.requires.0.formed a.pixel.x a.pixel.y c.requires.1 c.requires.2)
+    rw (c.put_model.ensures, c.offsets_of-offsets.ensures, c.place-spot.ensures, c.place-at.ensures, spot_is a.sizes c.requires.searching.formed a.x a.y c.requires.left c.requires.above)
