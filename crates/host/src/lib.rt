@@ -734,10 +734,11 @@ pub fn safeteal_walk_pair<'f, 'm>(
     let fields = [forward_x, forward_y, backward_x, backward_y];
     let first = [first0, first1, first2];
     let second = [second0, second1, second2];
-    walk_pair::pair(
+    let done = walk_pair::pair(
         luma0, chroma01, chroma02, luma1, chroma11, chroma12, luma2, chroma21, chroma22, walk,
         first, second, fields, numbers,
-    )
+    );
+    walk_state::told(done, walk)
 }
 
 // What the work slices (models, kept, cover) hold after acceptance is left free, as in fit.

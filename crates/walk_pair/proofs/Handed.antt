@@ -1,19 +1,21 @@
 -- A pair that a walk is handed: refused, or added to the slot of its chunk. Assumes nothing.
-use mathlib.Core.Path.{◌≡◌, subst, ◌∙◌}
-use mathlib.Core.Bool.{Bool}
+use mathlib.Core.Path.{◌≡◌, sym, subst, ◌∙◌}
+use mathlib.Core.Bool.{Bool, true, false}
 use mathlib.Core.List.{List, [], ◌∷◌}
-use Prim.Native.Nat.{ℕ, ◌+◌, ◌%◌}
+use Prim.Native.Nat.{ℕ, ◌+◌, ◌*◌, ◌%◌}
 use native.Mathlib.Omega.{arith}
-use borrow.Author.Tests.{ne_eqb}
 use lib.ListN.{length, set}
+use Rattle.std.specs.Prelude.{Result, Ok, Err, MatchResult}
 use lib.Ieee.{Float}
 use Rattle.rules.specs.declared.Walk.{Walk}
-use Rattle.rules.specs.declared.Walked.{Walked}
+use Rattle.rules.specs.declared.Refusal.{Refusal}
 use Rattle.rules.specs.Forms.{Slot, absent}
 use Rattle.rules.specs.Calls.{WalkPairCall, StatsCall}
 use Rattle.rules.specs.Domain.{are_slots}
-use Rattle.rules.specs.Refusals.{◌unless◌, Table, first_fitting, pair_rows, stats_refusal}
-use Rattle.rules.specs.Walk.{chunk_of, pairs_in, is_turn, slot, walk_size, walked, moved, pair_stats, walk_pair_refusal, pair_slots}
+use Rattle.rules.specs.Refusals.{◌unless◌, Table, number_of, numbered, first_fitting, pair_rows, stats_refusal}
+use Rattle.rules.specs.Walk.{chunk_of, pairs_in, is_turn, slot, walk_size, moved, pair_stats, walk_pair_refusal, pair_slots}
+use Rattle.calls.specs.Lent.{slots_of}
+use Rattle.laws.proofs.Answered.{number_some}
 use Rattle.told.specs.Told.{PairTold}
 use Rattle.plane.specs.Slices.{Slices}
 use Rattle.stats_refuse.specs.declared.Numbers as Stats
@@ -21,14 +23,25 @@ use Rattle.stats_refuse.specs.Call.{call_by, stats_by}
 use Rattle.stats.specs.Answered.{Added}
 use Rattle.walk_laws.proofs.Accepted.{stats_right, turn}
 use Rattle.walk_laws.proofs.Due.{few_layers}
-use Rattle.walk_state.specs.Counts.{Room}
+use Rattle.walk_state.specs.Counts.{Room, are_long, told_by}
+use Rattle.walk_state.proofs.Numbers.{by_lengths}
 use Rattle.walk_pair.specs.declared.Numbers.{Numbers}
 use Rattle.walk_pair.specs.Call.{chunk_numbers, handed_by}
 
 -- a refusal by other names of its numbers and of what holds of its sums
 pub by_names : (first second fields : Slices ℕ) {m n : Stats.Numbers} {long sums : Bool} (rows : Table) {r : ℕ} → m ≡ n → sums ≡ long
-    → r ≡ first_fitting (pair_rows (call_by absent first second fields m) sums rows) → r ≡ first_fitting (pair_rows (call_by absent first second fields n) long rows)
-by_names first second fields rows e f is = is ∙ rw (e, f)
+    → first_fitting (pair_rows (call_by absent first second fields m) sums rows) ≡ r → r ≡ first_fitting (pair_rows (call_by absent first second fields n) long rows)
+by_names first second fields rows e f is = sym is ∙ rw (e, f)
+
+-- the last row of a table, by its test
+pub last : (refusal : Refusal) (right : Bool) (r : Result Unit Refusal) → MatchResult r (λ _. right ≡ true) (λ e. (right ≡ false) × (e ≡ refusal))
+    → numbered r ≡ first_fitting ((number_of refusal unless right) ∷ [])
+unfolding first_fitting
+last refusal right (Ok u) h = rw h
+last refusal right (Err e) h = rw (h.0, h.1)
+
+plain : (n : ℕ) → n ≡ 0 * 256 + n
+plain n = omega arith
 
 -- as many pairs are in the chunk of the next one
 in_chunk : (added : ℕ) → pairs_in added (chunk_of added) ≡ added % 12
@@ -42,32 +55,40 @@ module _ (w : Walk) (slots : List Slot) (first second fields : Slices ℕ) (n : 
   abbrev on : Slot → StatsCall
   on s = stats_by s.0 s.1 s.2 first second fields (chunk_numbers w n)
 
-  pub number_is : (long : Bool) → long ≡ are_slots slots (walk_size w) w.ratio → (r : ℕ)
+  pub number_is : (long : Bool) → long ≡ are_slots slots (walk_size w) w.ratio → {r : ℕ}
       → r ≡ first_fitting (pair_rows (call_by absent first second fields (chunk_numbers w n)) long ((12 unless is_turn w n.number) ∷ [])) → r ≡ walk_pair_refusal call
   unfolding walk_pair_refusal
-  number_is long e r is = rw (← e) is
+  number_is long e is = rw (← e) is
 
-  pub refused : (r : ℕ) → r ≡ walk_pair_refusal call → (r ≡ 0 → ⊥) → (new : Walk) (a : Walked) → a ≡ walked r new w → PairTold call slots a
-  refused r is some new a e = let t = ne_eqb r 0 some in record { told = e ∙ rw (← is, t); slots_left = rw (← is, t) }
+  pub refused : (r : Refusal) → number_of r ≡ walk_pair_refusal call → PairTold call slots (told_by (Err r) w)
+  refused r is = let t = number_some r in record { told = rw (← is, t, ← plain (number_of r)); slots_left = rw (← is, t) }
 
   -- the clip has one pair more
-  pub more : walk_pair_refusal call ≡ 0 → Room w 1 0
-  more e = let t = turn call e in record { added = omega (arith, t.more); taken = omega (arith, few_layers w t.left) }
+  pub more : 0 ≡ walk_pair_refusal call → Room w 1 0
+  more e = let t = turn call (sym e) in record { added = omega (arith, t.more); taken = omega (arith, few_layers w t.left) }
 
   module _ (s : Slot) (at : slot slots (chunk_of w.added) ≡ s) where
     own : pair_stats call ≡ on s
     own = rw (at, in_chunk w.added)
 
     -- stats takes the pair
-    pub taken : length slots ≡ 3 → walk_pair_refusal call ≡ 0 → stats_refusal (on s) ≡ 0
-    taken three e = rw (← own) (stats_right call three e)
+    pub taken : length slots ≡ 3 → 0 ≡ walk_pair_refusal call → stats_refusal (on s) ≡ 0
+    taken three e = rw (← own) (stats_right call three (sym e))
 
-    pub ran : walk_pair_refusal call ≡ 0 → {m : Stats.Numbers} → m ≡ chunk_numbers w n → (j : ℕ) → chunk_of w.added % 3 ≡ j
+    pub ran : 0 ≡ walk_pair_refusal call → {m : Stats.Numbers} → m ≡ chunk_numbers w n → (j : ℕ) → chunk_of w.added % 3 ≡ j
         → (luma chroma1 chroma2 : List Float) → Added (stats_by s.0 s.1 s.2 first second fields m) luma chroma1 chroma2
-        → (a : Walked) → a ≡ walked 0 (moved w (w.added + 1) (w.taken + 0)) w → PairTold call (set slots j (luma, chroma1, chroma2)) a
+        → (next : Walk) → next ≡ moved w (w.added + 1) (w.taken + 0) → PairTold call (set slots j (luma, chroma1, chroma2)) (told_by (Ok next) w)
     unfolding pair_slots
-    ran e named j k luma chroma1 chroma2 added a is =
+    ran e named j k luma chroma1 chroma2 added next is =
         let sums : Added (on s) luma chroma1 chroma2 =
         subst (λ (m : Stats.Numbers). Added (stats_by s.0 s.1 s.2 first second fields m) luma chroma1 chroma2) named added in
         let none : w.taken + 0 ≡ w.taken = omega arith in
-        record { told = is ∙ rw (none, e); slots_left = rw (e, own, ← k, sums.luma_is, sums.chroma1_is, sums.chroma2_is) }
+        record { told = rw (is, none, ← e); slots_left = rw (← e, own, ← k, sums.luma_is, sums.chroma1_is, sums.chroma2_is) }
+
+-- the number of a refusal, by the lengths of the nine slices
+pub number : (w : Walk) (first second fields : Slices ℕ) (n : Numbers) (a b c d e f g h i : List Float) {r : ℕ}
+    → r ≡ first_fitting (pair_rows (call_by absent first second fields (chunk_numbers w n))
+    (are_long ((length a ∷ length b ∷ length c ∷ []) ∷ (length d ∷ length e ∷ length f ∷ []) ∷ (length g ∷ length h ∷ length i ∷ []) ∷ []) w) ((12 unless is_turn w n.number) ∷ []))
+    → r ≡ walk_pair_refusal (handed_by w (slots_of a b c d e f g h i) first second fields n)
+number w first second fields n a b c d e f g h i is =
+    number_is w (slots_of a b c d e f g h i) first second fields n _ (by_lengths w a b c d e f g h i) is

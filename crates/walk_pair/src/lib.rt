@@ -3,16 +3,16 @@
 
 ghost use Rattle.std.specs.Prelude.{◌≡◌, [], ◌∷◌};
 ghost use Rattle.rules.specs.Forms.{absent};
-ghost use Rattle.rules.specs.Refusals.{◌unless◌, first_fitting, pair_rows};
+ghost use Rattle.rules.specs.Refusals.{◌unless◌, first_fitting, numbered, pair_rows};
 ghost use Rattle.rules.specs.Walk.{is_turn};
 ghost use Rattle.calls.specs.Lent.{slots_of};
 ghost use Rattle.told.specs.Told.{PairTold};
 ghost use Rattle.stats_refuse.specs.Call.{call_by};
-ghost use Rattle.walk_state.specs.Counts.{are_long};
+ghost use Rattle.walk_state.specs.Counts.{are_long, told_by};
 ghost use Rattle.walk_pair.specs.Call.{chunk_numbers, handed_by};
 
 use motion::Grid;
-use rules::{Walk, Walked};
+use rules::{Refusal, Walk};
 
 // The numbers of a call: the pair's own number, the pitches of each frame's planes, and what the motion is laid out by.
 #[derive(Clone, Copy)]
@@ -27,9 +27,12 @@ pub struct Numbers {
 fn of_chunk(walk: Walk, numbers: Numbers) -> stats_refuse::Numbers
     ensures { result ≡ chunk_numbers walk numbers }
 {
-    let first = numbers.first;
-    let second = numbers.second;
-    let grid = numbers.grid;
+    let Numbers {
+        first,
+        second,
+        grid,
+        ..
+    } = numbers;
     stats_refuse::Numbers {
         pairs: walk.added % 12,
         width: walk.width,
@@ -41,22 +44,22 @@ fn of_chunk(walk: Walk, numbers: Numbers) -> stats_refuse::Numbers
     }
 }
 
-// The number of the refusal, or 0, by the lengths of the sums.
-fn refusal(
-    lengths: [usize; 9],
+// The tests of a call, in the order of the table, by the lengths of the sums.
+#[tactic(auto, unfolding(rules::specs::Refusals::first_fitting))]
+fn tested(
+    lengths: [[usize; 3]; 3],
     walk: Walk,
     first: [&[u8]; 3],
     second: [&[u8]; 3],
     fields: [&[u16]; 4],
     numbers: Numbers,
-) -> u8
-    ensures { result ≡ first_fitting (pair_rows (call_by absent first.entry second.entry fields.entry (chunk_numbers walk numbers)) (are_long lengths walk)
+) -> Result<(), Refusal>
+    ensures { numbered result ≡ first_fitting (pair_rows (call_by absent first.entry second.entry fields.entry (chunk_numbers walk numbers)) (are_long lengths walk)
         ((12 unless is_turn walk numbers.number) ∷ [])) }
 {
     let sums = walk_state::slotted(lengths, walk);
-    let turn = walk_state::turn(walk, numbers.number);
-    let to = of_chunk(walk, numbers);
-    stats_refuse::pair_refusal(sums, first, second, fields, to, plane::unless(12, turn, 0))
+    stats_refuse::pair_refusal(sums, first, second, fields, of_chunk(walk, numbers))?;
+    plane::ensure(walk_state::turn(walk, numbers.number), Refusal::Turn)
 }
 
 // Takes a pair, or refuses: the contract is the equation for both. `chroma12` are the sums of plane 2 in slot 1.
@@ -75,40 +78,26 @@ pub fn pair<'f>(
     second: [&'f [u8]; 3],
     fields: [&[u16]; 4],
     numbers: Numbers,
-) -> Walked
+) -> Result<Walk, Refusal>
     ensures { PairTold (handed_by walk
         (slots_of luma0.old chroma01.old chroma02.old luma1.old chroma11.old chroma12.old
         luma2.old chroma21.old chroma22.old)
         first.entry second.entry fields.entry numbers)
         (slots_of luma0.new chroma01.new chroma02.new luma1.new chroma11.new chroma12.new
         luma2.new chroma21.new chroma22.new)
-        result }
+        (told_by result walk) }
 {
     let lengths = [
-        luma0.len(),
-        chroma01.len(),
-        chroma02.len(),
-        luma1.len(),
-        chroma11.len(),
-        chroma12.len(),
-        luma2.len(),
-        chroma21.len(),
-        chroma22.len(),
+        [luma0.len(), chroma01.len(), chroma02.len()],
+        [luma1.len(), chroma11.len(), chroma12.len()],
+        [luma2.len(), chroma21.len(), chroma22.len()],
     ];
-    let number = refusal(lengths, walk, first, second, fields, numbers);
-    if number != 0 {
-        return walk_state::after(number, walk, 1, 0);
-    }
+    tested(lengths, walk, first, second, fields, numbers)?;
     let to = of_chunk(walk, numbers);
-    let slot = walk_state::slot_of(walk.added);
-    if slot == 0 {
-        stats::added(luma0, chroma01, chroma02, first, second, fields, to);
-        return walk_state::after(0, walk, 1, 0);
+    match walk_state::slot_of(walk.added) {
+        0 => stats::added(luma0, chroma01, chroma02, first, second, fields, to),
+        1 => stats::added(luma1, chroma11, chroma12, first, second, fields, to),
+        _ => stats::added(luma2, chroma21, chroma22, first, second, fields, to),
     }
-    if slot == 1 {
-        stats::added(luma1, chroma11, chroma12, first, second, fields, to);
-        return walk_state::after(0, walk, 1, 0);
-    }
-    stats::added(luma2, chroma21, chroma22, first, second, fields, to);
-    walk_state::after(0, walk, 1, 0)
+    Ok(walk_state::after(walk, 1, 0))
 }
