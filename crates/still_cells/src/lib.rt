@@ -24,7 +24,7 @@ pub trait Cells: Copy {
 
     ghost down: { Self → ℕ };
 
-    // Whether a pixel that stays is passed over. Where it isn't, as where its cells are few, a row is a loop without a
+    // Whether a pixel that stays is passed over. Where it isn't, as where both are constants, a row is a loop without a
     // branch.
     const SKIPS: bool;
 
@@ -72,7 +72,7 @@ impl<const ACROSS: usize, const DOWN: usize> Cells for Fixed<ACROSS, DOWN> {
 
     ghost down = { λ _. DOWN };
 
-    const SKIPS: bool = ACROSS > 3;
+    const SKIPS: bool = false;
 
     fn across(self) -> usize {
         ACROSS
