@@ -5,8 +5,8 @@
 ghost use Rattle.peel.specs.Call.{peel_of, unpeel_of, Peeled, Unpeeled};
 
 use layer_lent::{Lent, Shape};
-use lift_pixel::Work;
-use rules::Answer;
+use lift_pixel::{Peel, Unpeel};
+use rules::Refusal;
 
 // Peels a plane. The pitches of the shape's frames are not looked at: those of the byte planes stand beside them.
 pub fn peel<L: Lent>(
@@ -15,20 +15,15 @@ pub fn peel<L: Lent>(
     layer: L,
     raw: &[u8],
     pitch: usize,
-) -> Answer
+) -> Result<usize, Refusal>
     ensures { Peeled (peel_of shape (L.held layer) output.old raw.entry pitch) output.new result }
 {
     let mut over = shape;
     over.first_pitch = pitch;
     over.second_pitch = pitch;
-    let frames = [raw, raw];
-    let number = layer_refuse::peel_refusal(over, layer, output, frames);
-    if number != 0 {
-        return Answer { number, count: 0 };
-    }
+    layer_refuse::peel_refusal(over, layer, output, [raw, raw])?;
     let plan = layer_lent::planned(over);
-    let count = lift_rows::rows(output, Work::Peel, plan, layer, frames);
-    Answer { number: 0, count }
+    Ok(lift_rows::rows(output, Peel { raw }, plan, layer))
 }
 
 // Unpeels one. Here too they stand beside the planes.
@@ -40,24 +35,14 @@ pub fn unpeel<'o, 'f, L: Lent>(
     first_pitch: usize,
     second: &'f [u8],
     second_pitch: usize,
-) -> Answer
+) -> Result<usize, Refusal>
     ensures { Unpeeled (unpeel_of shape (L.held layer) output.old first.entry first_pitch second.entry second_pitch) output.new result }
 {
     let mut over = shape;
     over.first_pitch = first_pitch;
     over.second_pitch = second_pitch;
-    let frames = [first, second];
-    let refusal = layer_refuse::unpeel_refusal(over, layer, output, frames);
-    if refusal != 0 {
-        return Answer {
-            number: refusal,
-            count: 0,
-        };
-    }
+    layer_refuse::unpeel_refusal(over, layer, output, [first, second])?;
     let plan = layer_lent::planned(over);
-    let laid = lift_rows::rows(output, Work::Unpeel, plan, layer, frames);
-    Answer {
-        number: 0,
-        count: laid,
-    }
+    let work = Unpeel { first, second };
+    Ok(lift_rows::rows(output, work, plan, layer))
 }
