@@ -35,7 +35,7 @@ pub fn safeteal_distances(cells: &mut [u8], width: usize) -> u64
     ensures { (let c : DistancesCall = record { cells = cells.old; width = width } in
         Told (uncounted (distances_refusal c)) (distances_leaves c) cells.new result) }
 {
-    told::number(distances::distances(cells, width))
+    told::told(distances::distances(cells, width))
 }
 
 pub fn safeteal_mask(
@@ -216,7 +216,7 @@ pub fn safeteal_assemble(
         ToldThree (uncounted (assemble_refusal c)) (assemble_leaves c).luma (assemble_leaves c).chroma
         luma.new chroma1.new chroma2.new result }
 {
-    told::number(assemble::assemble(luma, chroma1, chroma2, width, height, ratio, models, cover))
+    told::told(assemble::assemble(luma, chroma1, chroma2, width, height, ratio, models, cover))
 }
 
 // `before`, `pairs` and `after` are the pairs of the previous, own and next part. What the work slices (models, kept,
@@ -275,7 +275,7 @@ pub fn safeteal_fit<'s>(
         pairs: [before, pairs, after],
         settings,
     };
-    told::number(fit::fit(models, kept, cover, luma, chroma1, chroma2, sums, numbers))
+    told::told(fit::fit(models, kept, cover, luma, chroma1, chroma2, sums, numbers))
 }
 
 pub fn safeteal_peel<'b>(
