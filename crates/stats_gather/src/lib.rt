@@ -103,6 +103,7 @@ fn gather_run<const MANY: usize>(
 
 // The pixels of a row, from place `place` on, run by run: neighbours share the columns of their block, which
 // are carried.
+// Kept: (d) the loop goes on by a run's length, not by one: a range of runs needs a product and the row's end besides.
 fn gather_pixels<const MANY: usize>(
     sums: &mut [f32],
     frames: [&[u8]; 2],
