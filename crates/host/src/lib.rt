@@ -783,9 +783,10 @@ pub fn safeteal_walk_layer<'s>(
         evidence,
         strict,
     };
-    walk_layer::layer(
+    let done = walk_layer::layer(
         models, kept, cover, luma, chroma1, chroma2, walk, sums, settings,
-    )
+    );
+    walk_state::told(done, walk)
 }
 
 // The yes stands in the count's place, as in empty.

@@ -3,22 +3,24 @@
 use mathlib.Core.Path.{◌≡◌, refl, sym, subst, ◌∙◌}
 use mathlib.Core.Bool.{Bool, true, false, cond, ◌&&◌, false≢true}
 use mathlib.Core.List.{List, [], ◌∷◌}
-use Prim.Native.Nat.{ℕ, zero, suc, ◌+◌, ◌-◌, ◌%◌, ◌≤◌}
+use Prim.Native.Nat.{ℕ, zero, suc, ◌+◌, ◌-◌, ◌*◌, ◌%◌, ◌≤◌}
 use native.Mathlib.Omega.{arith}
-use borrow.Author.Tests.{eqb-false, ltb-false, ne_eqb}
+use borrow.Author.Tests.{eqb-false, ltb-false}
 use lib.Dec.{eqb, ltb}
 use lib.ListN.{get_or}
 use lib.IntN.{ℤ}
 use lib.Ieee.{Float}
+use Rattle.std.specs.Prelude.{Result, Ok, Err, MatchResult}
 use Rattle.rules.specs.declared.Walk.{Walk}
-use Rattle.rules.specs.declared.Walked.{Walked}
+use Rattle.rules.specs.declared.Refusal.{Refusal}
 use Rattle.rules.specs.Forms.{Slot, Part, Parts, Fit, part, absent}
 use Rattle.rules.specs.Calls.{FitCall, WalkLayerCall}
-use Rattle.rules.specs.Refusals.{◌unless◌, Table, first_fitting, size_rows, work_rows, fit_refusal}
+use Rattle.rules.specs.Refusals.{◌unless◌, Table, number_of, numbered, first_fitting, size_rows, work_rows, fit_refusal}
 use Rattle.rules.specs.Fit.{fit_leaves}
-use Rattle.rules.specs.Walk.{chunks, pairs_in, is_left, is_due, slot, part_in, around, walk_size, walked, moved, parts_due, layer_fit, walk_layer_refusal, walk_layer_leaves}
+use Rattle.rules.specs.Walk.{chunks, pairs_in, is_left, is_due, slot, part_in, around, walk_size, moved, parts_due, layer_fit, walk_layer_refusal, walk_layer_leaves}
 use Rattle.calls.specs.Lent.{parts_of, fit_of}
 use Rattle.laws.proofs.Accepted.{row_right}
+use Rattle.laws.proofs.Answered.{number_some}
 use Rattle.told.specs.Told.{LayerTold}
 use Rattle.plane.specs.Slices.{Slices, at, slice}
 use Rattle.fit_trial.specs.declared.Settings.{Settings}
@@ -28,7 +30,7 @@ use Rattle.assemble_store.specs.Entries.{Stored}
 use Rattle.walk_laws.proofs.Due.{Due}
 use Rattle.walk_laws.proofs.Accepted.{due, fit_right}
 use Rattle.walk_laws.proofs.Unseen.{of, Alike, alike_trans, previous_unseen, next_unseen}
-use Rattle.walk_state.specs.Counts.{Room, counts_of, are_long}
+use Rattle.walk_state.specs.Counts.{Room, counts_of, are_long, told_by}
 use Rattle.walk_state.proofs.Numbers.{by_lengths}
 use Rattle.walk_layer.specs.Call.{numbers_of, slots_by, lengths_by, order_by, taken_by}
 
@@ -78,8 +80,18 @@ module _ (c : FitCall) (w : Walk) (d : Due w) (slots : List Slot) (before own af
 
 -- the rows of fit by another name of its numbers
 pub by_name : (parts : Parts) (models : List Float) (kept cover : List ℕ) (output : Fit) (rows : Table) {m n : Numbers} {r : ℕ} → m ≡ n
-    → r ≡ first_fitting (work_rows (fit_with parts m models kept cover output) rows) → r ≡ first_fitting (work_rows (fit_with parts n models kept cover output) rows)
-by_name parts models kept cover output rows e is = is ∙ rw e
+    → first_fitting (work_rows (fit_with parts m models kept cover output) rows) ≡ r → r ≡ first_fitting (work_rows (fit_with parts n models kept cover output) rows)
+by_name parts models kept cover output rows e is = sym is ∙ rw e
+
+-- the last row of a table, by its test
+pub last_row : (refusal : Refusal) (right : Bool) (r : Result Unit Refusal) → MatchResult r (λ _. right ≡ true) (λ e. (right ≡ false) × (e ≡ refusal))
+    → numbered r ≡ first_fitting ((number_of refusal unless right) ∷ [])
+unfolding first_fitting
+last_row refusal right (Ok u) h = rw h
+last_row refusal right (Err e) h = rw (h.0, h.1)
+
+plain : (n : ℕ) → n ≡ 0 * 256 + n
+plain n = omega arith
 
 module _ (w : Walk) (sums : Slices Float) (s : Settings) (models : List Float) (kept cover : List ℕ) (output : Fit) where
   abbrev call : WalkLayerCall
@@ -89,37 +101,38 @@ module _ (w : Walk) (sums : Slices Float) (s : Settings) (models : List Float) (
   abbrev rows : Table
   rows = work_rows (fit_with (parts_due w (slots_by sums)) (numbers_of w (0 ∷ 0 ∷ 0 ∷ []) s) models kept cover output) ((12 unless is_left w && is_due w) ∷ [])
 
-  pub number_is : {lengths : List ℕ} → lengths ≡ lengths_by sums → (rest r : ℕ) → rest ≡ first_fitting rows
-      → ((t : Table) → rest ≡ first_fitting t → r ≡ first_fitting (size_rows (walk_size w) w.ratio ((4 unless are_long lengths w) ∷ t))) → r ≡ walk_layer_refusal call
+  -- by the tests of the sums, and by those behind them
+  pub number_is : {lengths : List (List ℕ)} → lengths ≡ lengths_by sums → {r : ℕ}
+      → first_fitting (size_rows (walk_size w) w.ratio ((4 unless are_long lengths w) ∷ rows)) ≡ r → r ≡ walk_layer_refusal call
   unfolding walk_layer_refusal
-  number_is e rest r others is =
+  number_is e is =
       let at = slice sums in
-      is rows others ∙ rw (e, by_lengths w (at 0) (at 1) (at 2) (at 3) (at 4) (at 5) (at 6) (at 7) (at 8))
+      sym is ∙ rw (e, by_lengths w (at 0) (at 1) (at 2) (at 3) (at 4) (at 5) (at 6) (at 7) (at 8))
 
-  pub refused : (r : ℕ) → r ≡ walk_layer_refusal call → (r ≡ 0 → ⊥) → (new : Walk) (a : Walked) → a ≡ walked r new w → LayerTold call models kept cover output a
+  pub refused : (r : Refusal) → number_of r ≡ walk_layer_refusal call → LayerTold call models kept cover output (told_by (Err r) w)
   unfolding walk_layer_leaves
-  refused r is some new a e =
-      let t = ne_eqb r 0 some in
+  refused r is =
+      let t = number_some r in
       record {
-        told = e ∙ rw (← is, t);
+        told = rw (← is, t, ← plain (number_of r));
         output_left = rw (← is, t);
         models_stay = λ f. refl;
         kept_stays = λ f. refl;
         cover_stays = λ f. refl;
       }
 
-  pub is_due_lem : walk_layer_refusal call ≡ 0 → (is_left w && is_due w) ≡ true
+  pub is_due_lem : 0 ≡ walk_layer_refusal call → (is_left w && is_due w) ≡ true
   unfolding walk_layer_refusal
-  is_due_lem e = row_right _ refl e 9 _ refl
+  is_due_lem e = row_right _ refl (sym e) 9 _ refl
 
   -- the clip has one layer more
-  pub room : walk_layer_refusal call ≡ 0 → Room w 0 1
-  room e = let d = due call e in record { added = omega (arith, d.inside); taken = omega (arith, d.exists) }
+  pub room : 0 ≡ walk_layer_refusal call → Room w 0 1
+  room e = let d = due call (sym e) in record { added = omega (arith, d.inside); taken = omega (arith, d.exists) }
 
   -- ---- fit, on the slots in the order of the parts
 
   -- its numbers and its sums by their names
-  module _ (e : walk_layer_refusal call ≡ 0) {m : Numbers} (named : m ≡ numbers_of w (counts_of w) s) {order : Slices Float} (placed : order ≡ order_by sums (w.taken % 3)) where
+  module _ (e : 0 ≡ walk_layer_refusal call) {m : Numbers} (named : m ≡ numbers_of w (counts_of w) s) {order : Slices Float} (placed : order ≡ order_by sums (w.taken % 3)) where
     abbrev on : Slices Float → FitCall
     on order = fit_by order m models kept cover output
 
@@ -130,7 +143,7 @@ module _ (w : Walk) (sums : Slices Float) (s : Settings) (models : List Float) (
     in_order order p o n =
         let t = slots_by order in
         subst (λ (m : Numbers). Alike (fit_by order m models kept cover output) (layer_fit call)) (sym named)
-        (due_alike (layer_fit call) w (due call e) (slots_by sums) (get_or t 0 ([], [], [])) (get_or t 1 ([], [], [])) (get_or t 2 ([], [], [])) p o n)
+        (due_alike (layer_fit call) w (due call (sym e)) (slots_by sums) (get_or t 0 ([], [], [])) (get_or t 1 ([], [], [])) (get_or t 2 ([], [], [])) p o n)
 
     -- the chunk lies in slot 0, 1 or 2
     in_place : (k : ℕ) → w.taken % 3 ≡ k → k ≤ 2 → Alike (on (order_by sums k)) (layer_fit call)
@@ -151,17 +164,17 @@ module _ (w : Walk) (sums : Slices Float) (s : Settings) (models : List Float) (
     alike = rw placed (in_place (w.taken % 3) refl (omega arith))
 
     pub asks : fit_refusal (on order) ≡ 0
-    asks = alike.refusal ∙ fit_right call refl e
+    asks = alike.refusal ∙ fit_right call refl (sym e)
 
     pub ran : (models' : List Float) (kept' cover' : List ℕ) (luma chroma1 chroma2 : List ℤ) → Stored (fit_leaves (on order)) luma chroma1 chroma2
-        → (a : Walked) → a ≡ walked 0 (moved w (w.added + 0) (w.taken + 1)) w → LayerTold call models' kept' cover' (fit_of luma chroma1 chroma2) a
+        → (next : Walk) → next ≡ moved w (w.added + 0) (w.taken + 1) → LayerTold call models' kept' cover' (fit_of luma chroma1 chroma2) (told_by (Ok next) w)
     unfolding walk_layer_leaves
-    ran models' kept' cover' luma chroma1 chroma2 done a is =
+    ran models' kept' cover' luma chroma1 chroma2 done next is =
         let none : w.added + 0 ≡ w.added = omega arith in
         record {
-          told = is ∙ rw (none, e);
-          output_left = rw (e, ← alike.layer, done.luma_is, done.first_is, done.second_is);
-          models_stay = λ f. absurd (false≢true (sym f ∙ rw e));
-          kept_stays = λ f. absurd (false≢true (sym f ∙ rw e));
-          cover_stays = λ f. absurd (false≢true (sym f ∙ rw e));
+          told = rw (is, none, ← e);
+          output_left = rw (← e, ← alike.layer, done.luma_is, done.first_is, done.second_is);
+          models_stay = λ f. absurd (false≢true (sym f ∙ rw (← e)));
+          kept_stays = λ f. absurd (false≢true (sym f ∙ rw (← e)));
+          cover_stays = λ f. absurd (false≢true (sym f ∙ rw (← e)));
         }

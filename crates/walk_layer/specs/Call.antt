@@ -16,12 +16,13 @@ numbers_of w pairs s = record { width = w.width; height = w.height; ratio = w.ra
 abbrev pub slots_by : Slices Float → List Slot
 slots_by s = slots_of (slice s 0) (slice s 1) (slice s 2) (slice s 3) (slice s 4) (slice s 5) (slice s 6) (slice s 7) (slice s 8)
 
--- and their lengths
-abbrev pub lengths_by : Slices Float → List ℕ
+-- and their lengths, slot by slot
+abbrev pub lengths_by : Slices Float → List (List ℕ)
 lengths_by s =
-    length (slice s 0) ∷ length (slice s 1) ∷ length (slice s 2)
-    ∷ length (slice s 3) ∷ length (slice s 4) ∷ length (slice s 5)
-    ∷ length (slice s 6) ∷ length (slice s 7) ∷ length (slice s 8) ∷ []
+    (length (slice s 0) ∷ length (slice s 1) ∷ length (slice s 2) ∷ [])
+    ∷ (length (slice s 3) ∷ length (slice s 4) ∷ length (slice s 5) ∷ [])
+    ∷ (length (slice s 6) ∷ length (slice s 7) ∷ length (slice s 8) ∷ [])
+    ∷ []
 
 -- nine slices in the order of the parts, where the own part lies in this slot of 0, 1 and 2
 abbrev pub order_by : Slices Float → (slot : ℕ) → Slices Float
