@@ -53,6 +53,7 @@ pub fn strong(total: i32, span: usize) -> bool
 }
 
 // The model of a luma pixel's stored numbers.
+#[tactic(auto, unfolding(rules::specs::Reading::luma_texel))]
 pub fn luma_texel(gain: Gain, offset: Offset) -> Model
     ensures { result ≡ luma_texel gain offset }
 {
@@ -63,6 +64,8 @@ pub fn luma_texel(gain: Gain, offset: Offset) -> Model
 }
 
 // And of a chroma pixel's: the total of its gains, and its offset.
+// Kept: two bodies, as the rules have two definitions: luma's gain is a stored one, chroma's a mean.
+#[tactic(auto, unfolding(rules::specs::Reading::chroma_texel))]
 pub fn chroma_texel(total: i32, span: usize, offset: Offset) -> Model
     requires small { nat_abs total ≤ 524288 }
     requires few { span ≤ 4 }

@@ -101,7 +101,8 @@ pub fn one_or_four<L: Lent, const SPAN: usize>(plan: Plan, layer: L, x: usize, y
     }
 }
 
-// The total of a pixel's gains. Through `one_or_four` peel's rings of chroma would take twice as long.
+// The total of a pixel's gains.
+// Kept: through `one_or_four` peel's rings of chroma, when measured, took twice as long.
 pub fn gains<L: Lent>(plan: Plan, layer: L, x: usize, y: usize) -> i32
     requires planned { Planned plan }
     requires inside { Inside plan x y }

@@ -59,6 +59,7 @@ fn point<L: Lent, F: Fn(Plan, L, usize, usize) -> Model + Copy>(
 }
 
 // The model of a luma pixel, whose offset stands `shift` after its gain.
+// Kept: `layer_texel::straight` is no plainer here, and finds the offset's row anew for each pixel.
 fn luma_at<L: Lent>(plan: Plan, layer: L, shift: usize, x: usize, y: usize) -> Model
     requires sound { Sound plan (L.held layer) }
     requires inside { Inside plan x y }

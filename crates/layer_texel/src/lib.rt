@@ -11,6 +11,7 @@ use layer_lent::{Lent, Plan};
 use rules::Model;
 
 // The model of a luma pixel.
+#[tactic(auto, using(layer_lent::proofs::Plans::one_of), unfolding(rules::specs::Reading::texel))]
 fn luma_model<L: Lent>(plan: Plan, layer: L, x: usize, y: usize) -> Model
     requires sound { Sound plan (L.held layer) }
     requires inside { Inside plan x y }

@@ -1,18 +1,10 @@
 -- `layer_texel::texel_of` meets its contract, by its callees'. Assumes nothing.
-use borrow.Author.Tests.{eqb-true, eqb-false}
+use borrow.Author.Tests.{eqb-false}
 use mathlib.Core.Path.{◌∙◌}
 use mir.Syntax.{w32}
 use Rattle.layer_lent.proofs.Signed.{back}
 use Rattle.layer_texel.proofs.Models.{chroma_is}
 use Rattle.layer_texel.proofs.texel_of.Goals as goal
-
-pub luma_model-requires : goal.luma_model-requires
-luma_model-requires g c =
-    record { sound = c.requires.sound; inside = c.requires.inside; luma = eqb-true _ _ (c.requires.fixed.luma_is ∙ c.if-luma.true) }
-
-pub chroma_offset-offset-requires : goal.chroma_offset-offset-requires
-chroma_offset-offset-requires g c =
-    record { sound = c.requires.sound; inside = c.requires.inside; chroma = eqb-false _ _ (c.requires.fixed.luma_is ∙ c.if-luma.false) }
 
 pub returns : goal.returns
 returns g c =
