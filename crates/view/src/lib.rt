@@ -7,10 +7,10 @@ ghost use Rattle.peel.specs.Call.{peel_of, unpeel_of, Peeled, Unpeeled};
 ghost use Rattle.view.specs.Viewed.{peel_seen, unpeel_seen};
 
 use layer_lent::{Lent, Shape};
-use rules::Answer;
+use rules::Refusal;
 
 // A byte plane that is borrowed, with its pitch.
-#[derive(Drop)]
+#[derive(Clone, Copy)]
 pub struct View<'a> {
     pub bytes: &'a [u8],
     pub pitch: usize,
@@ -18,7 +18,8 @@ pub struct View<'a> {
 
 // The view of a slice.
 pub fn new<'a>(bytes: &'a [u8], pitch: usize) -> View<'a>
-    ensures { (result.bytes ≡ bytes.entry) × (result.pitch ≡ pitch) }
+    ensures bytes { result.bytes ≡ bytes.entry }
+    ensures pitch { result.pitch ≡ pitch }
 {
     View { bytes, pitch }
 }
@@ -29,7 +30,7 @@ pub fn peel_view<'o, 'f, L: Lent>(
     shape: Shape,
     layer: L,
     raw: View<'f>,
-) -> Answer
+) -> Result<usize, Refusal>
     ensures { Peeled (peel_seen shape (L.held layer) output.old raw.entry) output.new result }
 {
     peel::peel(output, shape, layer, raw.bytes, raw.pitch)
@@ -42,7 +43,7 @@ pub fn peel_of<'o, 'f, L: Lent>(
     layer: L,
     raw: &'f [u8],
     pitch: usize,
-) -> Answer
+) -> Result<usize, Refusal>
     ensures { Peeled (peel_of shape (L.held layer) output.old raw.entry pitch) output.new result }
 {
     peel_view(output, shape, layer, new(raw, pitch))
@@ -55,7 +56,7 @@ pub fn unpeel_views<'o, 'f, L: Lent>(
     layer: L,
     first: View<'f>,
     second: View<'f>,
-) -> Answer
+) -> Result<usize, Refusal>
     ensures { Unpeeled (unpeel_seen shape (L.held layer) output.old first.entry second.entry) output.new result }
 {
     peel::unpeel(
@@ -78,7 +79,7 @@ pub fn unpeel_of<'o, 'f, L: Lent>(
     first_pitch: usize,
     second: &'f [u8],
     second_pitch: usize,
-) -> Answer
+) -> Result<usize, Refusal>
     ensures { Unpeeled (unpeel_of shape (L.held layer) output.old first.entry first_pitch second.entry second_pitch) output.new result }
 {
     unpeel_views(
