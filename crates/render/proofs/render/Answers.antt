@@ -1,33 +1,57 @@
 -- What is left to answer of `render::render`'s goals: where the call is not refused, no row of the table fits.
-use mathlib.Core.Path.{sym, ◌∙◌}
+use mathlib.Core.Path.{refl}
 use mathlib.Core.List.{[], ◌∷◌}
 use native.Mathlib.Omega.{arith}
 use mir.Facts.{to_z-of_z}
-use Rattle.peel.proofs.Calls.{ran}
-use Rattle.render.proofs.Accepted.{runs}
+use Rattle.std.proofs.lemmas.Result.{err_from_is_err_and}
+use Rattle.render.proofs.Accepted.{runs, refused, ran}
 use Rattle.render.proofs.render.Goals as goal
 
-pub far-far-requires : goal.far-far-requires
-far-far-requires c =
+pub returns-in_err-tested : goal.returns-in_err-tested
+returns-in_err-tested g c =
+    let p = err_from_is_err_and c.from_residual.result c.from_residual.ensures.1 in
     let a = c.args in
-    let r = runs a.shape c.requires a.numbers (a.first ∷ a.second ∷ []) a.fields a.output.now a.grid a.algo
-    (λ k. omega (arith, c.type_inv.first k)) (λ k. omega (arith, c.type_inv.second k))
-    (sym (c.render_refusal-number.ensures a.algo) ∙ c.if-number-ne0.false) in
+    rw (p.1, p.2) (refused a.shape (g.L.Lent.held a.layer) a.output.now (a.first ∷ a.second ∷ []) a.fields a.grid a.algo _ (c.in_err-tested.ensures a.algo))
+
+pub far-far-requires : goal.far-far-requires
+far-far-requires g c =
+    let a = c.args in
+    let r = runs a.shape (g.L.Lent.held a.layer) (a.first ∷ a.second ∷ []) a.fields a.output.now a.grid a.algo
+    (λ k. omega (arith, c.type_inv.first k)) (λ k. omega (arith, c.type_inv.second k)) (c.in_ok-tested.ensures a.algo) in
     r.moves.laid.parts
 
-pub render_rows-count-requires : goal.render_rows-count-requires
-render_rows-count-requires c =
+pub invariant_of-lattice : goal.invariant_of-lattice
+invariant_of-lattice g c =
     let a = c.args in
-    let r = runs a.shape c.requires a.numbers (a.first ∷ a.second ∷ []) a.fields a.output.now a.grid a.algo
-    (λ k. omega (arith, c.type_inv.first k)) (λ k. omega (arith, c.type_inv.second k))
-    (sym (c.render_refusal-number.ensures a.algo) ∙ c.if-number-ne0.false) in
-    rw c.planned-plan.ensures (record { framed = r.framed; moves = r.moves; far_is = c.far-far.ensures }, r.room)
+    let r = runs a.shape (g.L.Lent.held a.layer) (a.first ∷ a.second ∷ []) a.fields a.output.now a.grid a.algo
+    (λ k. omega (arith, c.type_inv.first k)) (λ k. omega (arith, c.type_inv.second k)) (c.in_ok-tested.ensures a.algo) in
+    rw c.planned-plan.ensures (record { laid = r.moves.laid })
+
+pub invariant_of-motion : goal.invariant_of-motion
+invariant_of-motion g c =
+    let a = c.args in
+    let r = runs a.shape (g.L.Lent.held a.layer) (a.first ∷ a.second ∷ []) a.fields a.output.now a.grid a.algo
+    (λ k. omega (arith, c.type_inv.first k)) (λ k. omega (arith, c.type_inv.second k)) (c.in_ok-tested.ensures a.algo) in
+    rw c.planned-plan.ensures (record { moves = r.moves })
+
+pub render_rows-requires-clause-works : goal.render_rows-requires-clause-works
+render_rows-requires-clause-works g c =
+    let a = c.args in
+    let r = runs a.shape (g.L.Lent.held a.layer) (a.first ∷ a.second ∷ []) a.fields a.output.now a.grid a.algo
+    (λ k. omega (arith, c.type_inv.first k)) (λ k. omega (arith, c.type_inv.second k)) (c.in_ok-tested.ensures a.algo) in
+    record { framed = rw c.planned-plan.ensures r.framed; span = refl; far_is = c.far-far.ensures }
+
+pub render_rows-requires-clause-room : goal.render_rows-requires-clause-room
+render_rows-requires-clause-room g c =
+    let a = c.args in
+    let r = runs a.shape (g.L.Lent.held a.layer) (a.first ∷ a.second ∷ []) a.fields a.output.now a.grid a.algo
+    (λ k. omega (arith, c.type_inv.first k)) (λ k. omega (arith, c.type_inv.second k)) (c.in_ok-tested.ensures a.algo) in
+    rw c.planned-plan.ensures r.room
 
 pub returns : goal.returns
-returns c =
+returns g c =
     let a = c.args in
-    let r = runs a.shape c.requires a.numbers (a.first ∷ a.second ∷ []) a.fields a.output.now a.grid a.algo
-    (λ k. omega (arith, c.type_inv.first k)) (λ k. omega (arith, c.type_inv.second k))
-    (sym (c.render_refusal-number.ensures a.algo) ∙ c.if-number-ne0.false) in
-    let rows = rw (c.planned-plan.ensures, to_z-of_z c.ranges.algo) at c.render_rows-count.ensures in
-    record { done = ran _ _ _ _ _ _ _ _ _ (c.render_refusal-number.ensures a.algo) c.if-number-ne0.false r.framed.second_ready.fits.tall.1 rows }
+    let r = runs a.shape (g.L.Lent.held a.layer) (a.first ∷ a.second ∷ []) a.fields a.output.now a.grid a.algo
+    (λ k. omega (arith, c.type_inv.first k)) (λ k. omega (arith, c.type_inv.second k)) (c.in_ok-tested.ensures a.algo) in
+    let rows = rw (c.planned-plan.ensures, to_z-of_z c.ranges.algo) at c.render_rows.ensures in
+    ran a.shape (g.L.Lent.held a.layer) a.output.now (a.first ∷ a.second ∷ []) a.fields a.grid a.algo _ _ (c.in_ok-tested.ensures a.algo) r.framed.second_ready.fits.tall.1 rows
