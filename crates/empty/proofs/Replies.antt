@@ -2,17 +2,19 @@
 use mathlib.Core.Path.{◌≡◌}
 use mathlib.Core.Bool.{Bool, false, cond}
 use Prim.Native.Nat.{ℕ}
-use borrow.Author.Tests.{ne_eqb}
 use lib.Dec.{eqb}
-use Rattle.rules.specs.declared.Reply.{Reply}
+use Rattle.std.specs.Prelude.{Result, Ok, Err}
+use Rattle.rules.specs.declared.Refusal.{Refusal}
 use Rattle.rules.specs.Forms.{uncounted}
+use Rattle.rules.specs.Refusals.{number_of, replied}
+use Rattle.laws.proofs.Answered.{number_some}
 
 -- what is answered of a refusal's number and a layer that is empty or not
-abbrev pub Replied : (number : ℕ) → (none : Bool) → Reply → Type 0
-Replied number none r = r ≡ record { answer = uncounted number; yes = cond (eqb number 0) none false }
+abbrev pub Replied : (number : ℕ) → (none : Bool) → Result Bool Refusal → Type 0
+Replied number none r = replied r ≡ record { answer = uncounted number; yes = cond (eqb number 0) none false }
 
-pub refused : (number r : ℕ) (none : Bool) → r ≡ number → (r ≡ 0 → ⊥) → Replied number none (record { answer = uncounted r; yes = false })
-refused number r none e some = let t = ne_eqb r 0 some in simp (← e, t)
+pub refused : (r : Refusal) (number : ℕ) (none : Bool) → number_of r ≡ number → Replied number none (Err r)
+refused r number none e = let t = number_some r in simp (← e, t)
 
-pub ran : (number r : ℕ) (none seen : Bool) → r ≡ number → r ≡ 0 → seen ≡ none → Replied number none (record { answer = uncounted r; yes = seen })
-ran number r none seen e z f = simp (← e, z, f)
+pub ran : (number : ℕ) (none seen : Bool) → 0 ≡ number → seen ≡ none → Replied number none (Ok seen)
+ran number none seen z f = simp (← z, f)

@@ -3,6 +3,7 @@
 use mathlib.Core.Path.{◌≡◌, refl, ap, ◌∙◌}
 use mathlib.Core.Bool.{Bool, true, false, ◌&&◌}
 use mathlib.Core.Logic.{⊎_elim}
+use mathlib.Core.List.{[]}
 use Prim.Native.Nat.{ℕ, zero, suc, ◌-◌, ◌^◌, ◌<◌}
 use native.Mathlib.Nat.{eq-or-lt_of_le}
 use native.Mathlib.Omega.{arith}
@@ -12,12 +13,11 @@ use lib.IntN.{ℤ, pos, negsuc}
 use lib.Signed.{mag}
 use mir.Syntax.{w16}
 use mir.Val.{of_z}
-use Rattle.rules.specs.Forms.{turns, all, each, cells, is_number}
-use Rattle.rules.specs.Refusals.{first_fitting, empty_refusal}
+use Rattle.rules.specs.Forms.{turns, all, cells, is_number}
+use Rattle.rules.specs.Refusals.{empty_refusal}
 use Rattle.laws.proofs.Accepted.{cells_in}
 use Rattle.layer_lent.specs.declared.Shape.{Shape}
 use Rattle.layer_lent.specs.Lent.{lay, plan_of, Held}
-use Rattle.plane.specs.Slices.{slice}
 use Rattle.layer_refuse.proofs.Accepted.{accepted}
 use Rattle.empty.specs.Marks.{InRows}
 
@@ -41,11 +41,10 @@ all_false (suc n) k test below e =
     and_false false = refl
 
 -- the rows of cells of a layer that is not refused
-pub in_rows : (s : Shape) (held : Held) → s.plane ≡ 0 → empty_refusal (lay s held) ≡ 0
-    → InRows (plan_of s) (slice numbers 2) (slice bytes 2) (cells s.width) (cells s.height)
-unfolding empty_refusal first_fitting each
+pub in_rows : (s : Shape) (held : Held) → s.plane ≡ 0 → empty_refusal (lay s held) ≡ 0 → InRows (plan_of s) (held 2) (cells s.width) (cells s.height)
+unfolding empty_refusal
 in_rows s held luma e =
-    let sound = (accepted s held true true 0 (rw luma e)).sound in
+    let sound = (accepted s held [] [] (rw luma e)).sound in
     let f = sound.planned.formed in
     let w = cells_in s.width s.ratio f.ratio.1 f.whole_across in
     let pitch = f.chroma_pitch in

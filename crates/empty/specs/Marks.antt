@@ -6,8 +6,8 @@ use Rattle.layer_lent.specs.declared.Plan.{Plan}
 use Rattle.layer_lent.specs.Lent.{holding, ChromaLong, Planned}
 
 -- a layer, of which the cells are read alone
-abbrev pub celled : Plan → List ℤ → List ℕ → Layer
-celled p held = holding p.shape [] [] (marks)
+abbrev pub celled : Plan → List ℤ → Layer
+celled p marks = holding p.shape [] [] marks
 
 -- the number of this cell is not 0
 abbrev pub unmarked : Layer → (x y : ℕ) → Bool
@@ -24,13 +24,13 @@ rows_unmarked l width height = all height (λ y. row_unmarked l y width)
 -- so many cells of a row, in a layer that is not refused
 pub record InRow (p : Plan) (marks : List ℤ) (y width : ℕ) : Type 0 where
   pub planned : Planned p
-  pub long : ChromaLong p (marks)
+  pub long : ChromaLong p marks
   pub wide : width ≤ p.shape.chroma_pitch
   pub above : y < p.rows
 
 -- so many rows of them
 pub record InRows (p : Plan) (marks : List ℤ) (width height : ℕ) : Type 0 where
   pub planned : Planned p
-  pub long : ChromaLong p (marks)
+  pub long : ChromaLong p marks
   pub wide : width ≤ p.shape.chroma_pitch
   pub tall : height ≤ p.rows

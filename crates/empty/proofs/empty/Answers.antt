@@ -1,17 +1,23 @@
 -- What is left to answer of `empty::empty`'s goals.
 use mathlib.Core.Path.{refl, sym, ◌∙◌}
+use Rattle.std.proofs.lemmas.Result.{err_from_is_err_and}
 use Rattle.rules.specs.Reading.{empty}
 use Rattle.empty.proofs.Rows.{in_rows}
-use Rattle.empty.proofs.Replies.{ran}
+use Rattle.empty.proofs.Replies.{refused, ran}
 use Rattle.empty.proofs.empty.Goals as goal
 
-pub rows_unmarked-yes-requires : goal.rows_unmarked-yes-requires
-rows_unmarked-yes-requires g c =
+pub rows_unmarked-requires : goal.rows_unmarked-requires
+rows_unmarked-requires g c =
     let a = c.args in
-    rw (c.planned-plan.ensures, c.cells.ensures, c.cells-2.ensures)
-    (in_rows _ (g.L.Lent.held a.layer) refl (sym c.empty_refusal-number.ensures ∙ c.if-number-ne0.false))
+    rw (c.planned-plan.ensures, c.cells-width.ensures, c.cells-height.ensures)
+    (in_rows _ (g.L.Lent.held a.layer) refl (sym c.in_ok-empty_refusal.ensures))
+
+pub returns-in_err-empty_refusal : goal.returns-in_err-empty_refusal
+returns-in_err-empty_refusal g c =
+    let p = err_from_is_err_and c.from_residual.result c.from_residual.ensures.1 in
+    rw (p.1, p.2) (refused _ _ _ c.in_err-empty_refusal.ensures)
 
 pub returns : goal.returns
 unfolding empty
 returns g c =
-    ran _ _ _ _ c.empty_refusal-number.ensures c.if-number-ne0.false (c.rows_unmarked-yes.ensures ∙ rw (c.planned-plan.ensures, c.cells.ensures, c.cells-2.ensures))
+    ran _ _ _ c.in_ok-empty_refusal.ensures (c.rows_unmarked.ensures ∙ rw (c.planned-plan.ensures, c.cells-width.ensures, c.cells-height.ensures))

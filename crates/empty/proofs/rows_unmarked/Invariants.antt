@@ -1,12 +1,8 @@
--- The invariant and the measure of `empty::rows_unmarked`.
+-- The invariant of `empty::rows_unmarked`: none of the first y rows has a 0.
 use mathlib.Core.Path.{◌≡◌}
 use mathlib.Core.Bool.{true}
-use Prim.Native.Nat.{◌-◌, ◌≤◌}
 use Rattle.empty.specs.Marks.{celled, rows_unmarked}
 use Rattle.empty.proofs.rows_unmarked.Given as goal
 
 abbrev pub invariant-loop-y : goal.invariant-loop-y
-invariant-loop-y g l = (true ≡ rows_unmarked (celled l.plan (g.L.Lent.held l.layer)) l.width l.y) × (l.y ≤ l.height)
-
-abbrev pub decreases-loop-y : goal.decreases-loop-y
-decreases-loop-y g l = l.height - l.y
+invariant-loop-y g l = true ≡ rows_unmarked (celled l.plan (g.L.Lent.held l.layer 2)) l.width l.y
