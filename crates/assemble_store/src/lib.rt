@@ -61,11 +61,11 @@ struct Models<'m> {
 
 impl Models<'_> {
     // What stands at column x of row y in the second half of plane 1 or 2: no cell is in plane 1.
-    fn tail(&self, plane: usize, x: usize, y: usize) -> i16
-        requires { x < self.now.sizes.chroma_width }
+    fn tail(self, plane: usize, x: usize, y: usize) -> i16
+        requires { x < self.sizes.chroma_width }
         ensures { result
-            ≡ tail_entry self.now.cover.now (self.now.sizes.width, self.now.sizes.height) self.now.sizes.chroma_width plane
-            (y * self.now.sizes.chroma_width + x) }
+            ≡ tail_entry self.entry.cover.now (self.entry.sizes.width, self.entry.sizes.height) self.entry.sizes.chroma_width plane
+            (y * self.entry.sizes.chroma_width + x) }
     {
         if plane == 1 {
             return 0;
@@ -76,11 +76,11 @@ impl Models<'_> {
     }
 
     // The offset and the cell of a chroma pixel of plane 1 or 2.
-    fn put_chroma(&self, chroma: &mut [i16], plane: usize, x: usize, y: usize)
-        requires long { ChromaLong chroma.old self.now.sizes }
-        requires block { Block self.now.sizes plane x y }
-        ensures { PairPut (chroma_entry (models_of self.now.floats.now self.now.sizes) self.now.cover.now self.now.sizes plane)
-            (points self.now.sizes) (y * self.now.sizes.chroma_width + x) chroma.old chroma.new }
+    fn put_chroma(self, chroma: &mut [i16], plane: usize, x: usize, y: usize)
+        requires long { ChromaLong chroma.old self.sizes }
+        requires block { Block self.sizes plane x y }
+        ensures { PairPut (chroma_entry (models_of self.entry.floats.now self.entry.sizes) self.entry.cover.now self.entry.sizes plane)
+            (points self.entry.sizes) (y * self.entry.sizes.chroma_width + x) chroma.old chroma.new }
     {
         let sizes = self.sizes;
         let points = plane::place(sizes.chroma_width, sizes.chroma_height, 0);
@@ -91,14 +91,14 @@ impl Models<'_> {
     }
 
     // Those of a chroma row.
-    fn chroma_run(&self, chroma: &mut [i16], plane: usize, y: usize)
-        requires long { ChromaLong chroma.old self.now.sizes }
+    fn chroma_run(self, chroma: &mut [i16], plane: usize, y: usize)
+        requires long { ChromaLong chroma.old self.sizes }
         requires some { 1 ≤ plane }
         requires few { plane ≤ 2 }
-        requires above { y < self.now.sizes.chroma_height }
-        ensures { PointsStored self.now.sizes (models_of self.now.floats.now self.now.sizes) self.now.cover.now plane
-            (y * self.now.sizes.chroma_width)
-            (y * self.now.sizes.chroma_width + self.now.sizes.chroma_width) chroma.old chroma.new }
+        requires above { y < self.sizes.chroma_height }
+        ensures { PointsStored self.entry.sizes (models_of self.entry.floats.now self.entry.sizes) self.entry.cover.now plane
+            (y * self.entry.sizes.chroma_width)
+            (y * self.entry.sizes.chroma_width + self.entry.sizes.chroma_width) chroma.old chroma.new }
     {
         for x in 0..self.sizes.chroma_width {
             self.put_chroma(chroma, plane, x, y);
@@ -106,10 +106,10 @@ impl Models<'_> {
     }
 
     // A row of chroma pixels, and the luma pixels that it spans.
-    fn store_row(&self, luma: &mut [i16], chroma1: &mut [i16], chroma2: &mut [i16], y: usize)
-        requires room { Room luma.old chroma1.old chroma2.old self.now.sizes }
-        requires above { y < self.now.sizes.chroma_height }
-        ensures { RowsStored self.now.sizes (models_of self.now.floats.now self.now.sizes) self.now.cover.now y (y + 1)
+    fn store_row(self, luma: &mut [i16], chroma1: &mut [i16], chroma2: &mut [i16], y: usize)
+        requires room { Room luma.old chroma1.old chroma2.old self.sizes }
+        requires above { y < self.sizes.chroma_height }
+        ensures { RowsStored self.entry.sizes (models_of self.entry.floats.now self.entry.sizes) self.entry.cover.now y (y + 1)
             luma.old chroma1.old chroma2.old
             luma.new chroma1.new chroma2.new }
     {

@@ -12,6 +12,6 @@ loop-x-init c = rw add-zero (paired_none _ _ _ _)
 pub loop-x-preserved : goal.loop-x-preserved
 loop-x-preserved c =
     let a = c.args in
-    let g = a.self.now.sizes in
+    let g = a.self.sizes in
     let inside = point_in g c.loop-x.x a.y c.loop-x-test.true c.requires.above in
     rw (← add_assoc (a.y * g.chroma_width) c.loop-x.x 1) (paired_more c.loop-x.invariant (omega arith) c.put_chroma.ensures)

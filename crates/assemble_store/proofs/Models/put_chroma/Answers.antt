@@ -17,16 +17,16 @@ put_pair-requires c =
       c.requires.long,
       c.place-points.ensures,
       c.place-k.ensures,
-      point_in a.self.now.sizes a.x a.y c.requires.block.left c.requires.block.above,
+      point_in a.self.sizes a.x a.y c.requires.block.left c.requires.block.above,
     )
 
 pub returns : goal.returns
 returns c =
     let a = c.args in
-    let g = a.self.now.sizes in
+    let g = a.self.sizes in
     let b = c.requires.block in
-    let cover = a.self.now.cover.now in
-    let models = models_of a.self.now.floats.now g in
+    let cover = a.self.cover.now in
+    let models = models_of a.self.floats.now g in
     c.put_pair.ensures
     ∙ rw (
       c.stored_total-offset.ensures,

@@ -9,7 +9,7 @@ use Rattle.assemble_store.proofs.Models.store_row.Goals as goal
 
 pub luma_run-requires : goal.luma_run-requires
 luma_run-requires c =
-    let m = c.args.self.now in
+    let m = c.args.self in
     let pixels : c.place-pixels.result ≡ m.sizes.width * m.sizes.height = c.place-pixels.ensures ∙ add-zero _ in
     let band : c.place-band.result ≡ m.sizes.ratio * m.sizes.width = c.place-band.ensures ∙ add-zero _ in
     let inside = band_in m.sizes m.ready.formed c.args.y c.place-band.result band c.requires.above in

@@ -14,13 +14,13 @@ returns-then-plane-eq1 c = sym (simp (eq-eqb _ _ c.if-plane-eq1.true))
 
 pub cell-requires : goal.cell-requires
 cell-requires c =
-    let m = c.args.self.now in
+    let m = c.args.self in
     rw (c.cells-across.ensures, c.cells-down.ensures) (covered m.sizes m.cover.now m.ready.formed m.ready.cover_long)
 
 pub returns : goal.returns
 returns c =
     let a = c.args in
-    let m = a.self.now in
+    let m = a.self in
     let e = rw (c.cells-across.ensures, c.cells-down.ensures) at c.cell.ensures in
     rw c.from.ensures (
     to_z_pos w16 {n = c.cell.result} (omega arith)
