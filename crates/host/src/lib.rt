@@ -302,10 +302,7 @@ pub fn safeteal_peel<'b>(
         (plane_of raw.now raw_pitch) in
         Told (peel_answer c) (peel_leaves c) output.new result }
 {
-    let none = [0i16; 1];
-    let numbers = [&none[..], &none[..], &none[..]];
     let shape = Shape {
-        packed: true,
         luma_pitch,
         chroma_pitch,
         width,
@@ -317,14 +314,7 @@ pub fn safeteal_peel<'b>(
         second_pitch: raw_pitch,
         time: 0.0,
     };
-    told::word(view::peel_of(
-        output,
-        shape,
-        numbers,
-        [luma, chroma1, chroma2],
-        raw,
-        raw_pitch,
-    ))
+    told::told(view::peel_of(output, shape, [luma, chroma1, chroma2], raw, raw_pitch))
 }
 
 pub fn safeteal_unpeel<'b, 'f>(
@@ -354,10 +344,7 @@ pub fn safeteal_unpeel<'b, 'f>(
         (frames_of (plane_of first.now first_pitch) (plane_of second.now second_pitch) time) in
         Told (unpeel_answer c) (unpeel_leaves c) output.new result }
 {
-    let none = [0i16; 1];
-    let numbers = [&none[..], &none[..], &none[..]];
     let shape = Shape {
-        packed: true,
         luma_pitch,
         chroma_pitch,
         width,
@@ -369,10 +356,9 @@ pub fn safeteal_unpeel<'b, 'f>(
         second_pitch,
         time,
     };
-    told::word(view::unpeel_of(
+    told::told(view::unpeel_of(
         output,
         shape,
-        numbers,
         [luma, chroma1, chroma2],
         first,
         first_pitch,
@@ -406,7 +392,6 @@ pub fn safeteal_peel_numbers<'n>(
         Told (peel_answer c) (peel_leaves c) output.new result }
 {
     let shape = Shape {
-        packed: false,
         luma_pitch,
         chroma_pitch,
         width,
@@ -418,14 +403,7 @@ pub fn safeteal_peel_numbers<'n>(
         second_pitch: raw_pitch,
         time: 0.0,
     };
-    told::word(view::peel_of(
-        output,
-        shape,
-        [luma, chroma1, chroma2],
-        [raw, raw, raw],
-        raw,
-        raw_pitch,
-    ))
+    told::told(view::peel_of(output, shape, [luma, chroma1, chroma2], raw, raw_pitch))
 }
 
 pub fn safeteal_unpeel_numbers<'n, 'f>(
@@ -456,7 +434,6 @@ pub fn safeteal_unpeel_numbers<'n, 'f>(
         Told (unpeel_answer c) (unpeel_leaves c) output.new result }
 {
     let shape = Shape {
-        packed: false,
         luma_pitch,
         chroma_pitch,
         width,
@@ -468,11 +445,10 @@ pub fn safeteal_unpeel_numbers<'n, 'f>(
         second_pitch,
         time,
     };
-    told::word(view::unpeel_of(
+    told::told(view::unpeel_of(
         output,
         shape,
         [luma, chroma1, chroma2],
-        [first, first, first],
         first,
         first_pitch,
         second,
@@ -496,7 +472,6 @@ pub fn safeteal_empty<'n>(
         luma_pitch chroma_pitch width height ratio)) }
 {
     let shape = Shape {
-        packed: false,
         luma_pitch,
         chroma_pitch,
         width,
@@ -508,9 +483,7 @@ pub fn safeteal_empty<'n>(
         second_pitch: 0,
         time: 0.0,
     };
-    let none = [0u8; 1];
-    let bytes = [&none[..], &none[..], &none[..]];
-    told::reply(empty::empty(shape, [luma, chroma1, chroma2], bytes))
+    told::told(empty::empty(shape, [luma, chroma1, chroma2]))
 }
 
 pub fn safeteal_render<'n, 'f, 'm>(
