@@ -1,11 +1,6 @@
--- A motion number is read back from its bits; what is carried gives the definition's steps. Assumes nothing.
+-- The entries around a pixel hang on the grid alone; what is carried gives the definition's steps. Assumes nothing.
 use mathlib.Core.Path.{◌≡◌, refl, ap, ◌∙◌}
-use Prim.Native.Nat.{ℕ, ◌≤◌}
-use native.Mathlib.Omega.{arith}
-use lib.IntN.{ℤ, nat_abs}
-use mir.Syntax.{w32}
-use mir.Val.{to_z, of_z}
-use Rattle.laws.proofs.Signed.{again}
+use Prim.Native.Nat.{ℕ}
 use Rattle.rules.specs.declared.Taps.{Taps}
 use Rattle.rules.specs.Forms.{Motion}
 use lib.Ieee.{Float}
@@ -16,10 +11,6 @@ use Rattle.motion.specs.declared.Carried.{Carried}
 use Rattle.motion.specs.declared.Grid.{Grid}
 use Rattle.plane.specs.Slices.{Slices}
 use Rattle.motion.specs.Moves.{motion_of, laid_out, place_of, columns_of, steps_by, Carries, mixed_steps}
-
--- a motion number is read back from its bits
-pub back : (z : ℤ) → nat_abs z ≤ 4096 → to_z w32 (of_z w32 z) ≡ z
-back z h = again w32 z (omega arith)
 
 -- the entries around a pixel are the same whatever the fields hold
 pub same_columns : (fields : Slices ℕ) (g : Grid) (ratio x : ℕ) → column_taps (laid_out g) ratio x ≡ column_taps (motion_of fields g) ratio x

@@ -1,3 +1,2 @@
--- Laws of the tests, and what they say where they hold.
-pub mod Tests
+-- What the tests say where they hold.
 pub mod Accepted
