@@ -530,7 +530,6 @@ pub fn safeteal_render<'n, 'f, 'm>(
         Told (render_answer c) (render_leaves c) output.new result }
 {
     let shape = Shape {
-        packed: false,
         luma_pitch,
         chroma_pitch,
         width,
@@ -551,7 +550,7 @@ pub fn safeteal_render<'n, 'f, 'm>(
         origin_y,
         pel,
     };
-    told::word(render::render(
+    told::told(render::render(
         output,
         shape,
         [luma, chroma1, chroma2],
