@@ -6,6 +6,7 @@ use Prim.Native.Nat.{ℕ, zero, suc, ◌+◌, ◌-◌, ◌≤◌, ◌<◌}
 use native.Mathlib.Numerals.{add-one}
 use native.Mathlib.Omega.{arith}
 use lib.IntN.{ℤ}
+use mir.Val.{bool_byte}
 use Rattle.rules.specs.declared.Model.{Model}
 use Rattle.rules.specs.Literals.{0·0, 8·0}
 use Rattle.rules.specs.Float.{◌⊖◌, ◌⊗◌, ◌≼◌, signed}
@@ -21,11 +22,11 @@ use Rattle.lift_pixel.proofs.Peels.{near_writes}
 use Rattle.lift_count.specs.Counts.{layered_rule, CountedOn, RowCounted, RowsCounted, Counts}
 
 -- one more, or none
-added : (b : Bool) (n : ℕ) → n + cond b 1 0 ≡ cond b (n + 1) n
+added : (b : Bool) (n : ℕ) → n + bool_byte b ≡ cond b (n + 1) n
 added true n = refl
 added false n = omega arith
 
-pub one_most : (b : Bool) → cond b 1 0 ≤ 1
+pub one_most : (b : Bool) → bool_byte b ≤ 1
 one_most true = omega arith
 one_most false = omega arith
 
@@ -36,7 +37,7 @@ module _ {l : Layer} {plane y : ℕ} where
   on_none from count = record { on = λ start e. e; few = omega arith }
 
   on_more : {from x count n : ℕ} (written : Bool) → written ≡ layered l plane x y → from ≤ x → CountedOn l plane y from x count n
-      → CountedOn l plane y from (x + 1) count (n + cond written 1 0)
+      → CountedOn l plane y from (x + 1) count (n + bool_byte written)
   unfolding turns scan_row tally
   on_more {x = x} {n = n} written is low done =
       record {
@@ -46,7 +47,7 @@ module _ {l : Layer} {plane y : ℕ} where
 
   -- a pixel of a near cell
   pub on_near : {from x count n : ℕ} {m : Model} → m ≡ texel l plane x y → (gap l plane x y ≼ 0·0) ≡ true → from ≤ x → CountedOn l plane y from x count n
-      → CountedOn l plane y from (x + 1) count (n + cond (not (is_plain m)) 1 0)
+      → CountedOn l plane y from (x + 1) count (n + bool_byte (not (is_plain m)))
   on_near {x = x} {m = m} model near low done = on_more (not (is_plain m)) (rw model (sym (near_writes l plane x y near))) low done
 
   -- ---- a row

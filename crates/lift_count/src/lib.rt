@@ -13,68 +13,73 @@ use lift_rows::Stretch;
 
 // Whether a pixel is written.
 pub fn writes<L: Lent>(plan: Plan, layer: L, x: usize, y: usize) -> bool
-    requires { Sound plan (L.held layer) × Inside plan x y }
+    requires sound { Sound plan (L.held layer) }
+    requires inside { Inside plan x y }
     ensures { result ≡ layered (lay plan.shape (L.held layer)) plan.shape.plane x y }
 {
     let near = layer_cell::near(layer_cell::distance(plan, layer, x, y));
     let model = layer_texel::texel(plan, layer, x, y);
-    plane::both(near, !fit_model::plain(model))
+    near & !fit_model::plain(model)
 }
 
 // How many of a stretch, all in near cells, with those before it.
 fn run<L: Lent>(plan: Plan, layer: L, stretch: Stretch) -> usize
-    requires { Sound plan (L.held layer) × StretchAsks plan stretch × NearRun plan (lay plan.shape (L.held layer)) stretch }
+    requires sound { Sound plan (L.held layer) }
+    requires room { StretchAsks plan stretch }
+    requires near { NearRun plan (lay plan.shape (L.held layer)) stretch }
     ensures { StretchCounted plan (lay plan.shape (L.held layer)) stretch result }
 {
     let mut n = stretch.count;
-    let mut x = stretch.from;
-    while x < stretch.to {
+    for x in stretch.from..stretch.to {
         let model = layer_texel::texel(plan, layer, x, stretch.y);
-        n += plane::bit(!fit_model::plain(model)) as usize;
-        x += 1;
+        n += usize::from(!fit_model::plain(model));
     }
     n
 }
 
-// The same where a pixel has one gain or four, in straight lines. `luma` and `span` are constants at each call: a loop
-// is compiled for each, with a count as wide as a float.
-fn straight_run<L: Lent>(
+// The same where a pixel has one gain or four, in straight lines. A loop is compiled for each plane and span, with a
+// count as wide as a float.
+fn straight_run<L: Lent, const LUMA: bool, const SPAN: usize>(
     plan: Plan,
-    luma: bool,
-    span: usize,
     layer: L,
     stretch: Stretch,
 ) -> usize
-    requires { Sound plan (L.held layer) × StretchAsks plan stretch × NearRun plan (lay plan.shape (L.held layer)) stretch × Fixed plan luma span × (span ≤ 2) }
+    requires sound { Sound plan (L.held layer) }
+    requires room { StretchAsks plan stretch }
+    requires near { NearRun plan (lay plan.shape (L.held layer)) stretch }
+    requires fixed { Fixed plan LUMA SPAN }
+    requires few { SPAN ≤ 2 }
     ensures { StretchCounted plan (lay plan.shape (L.held layer)) stretch result }
 {
     let mut n: u32 = 0;
-    let mut x = stretch.from;
-    while x < stretch.to {
-        let model = layer_texel::straight(plan, luma, span, layer, x, stretch.y);
-        n += plane::bit(!fit_model::plain(model)) as u32;
-        x += 1;
+    for x in stretch.from..stretch.to {
+        let model = layer_texel::straight::<L, LUMA, SPAN>(plan, layer, x, stretch.y);
+        n += u32::from(!fit_model::plain(model));
     }
     stretch.count + n as usize
 }
 
 // Either, in the way that is fast for its plane.
 fn near_run<L: Lent>(plan: Plan, layer: L, stretch: Stretch) -> usize
-    requires { Sound plan (L.held layer) × StretchAsks plan stretch × NearRun plan (lay plan.shape (L.held layer)) stretch }
+    requires sound { Sound plan (L.held layer) }
+    requires room { StretchAsks plan stretch }
+    requires near { NearRun plan (lay plan.shape (L.held layer)) stretch }
     ensures { StretchCounted plan (lay plan.shape (L.held layer)) stretch result }
 {
     if plan.shape.plane == 0 {
-        return straight_run(plan, true, 1, layer, stretch);
+        straight_run::<L, true, 1>(plan, layer, stretch)
+    } else if plan.span == 2 {
+        straight_run::<L, false, 2>(plan, layer, stretch)
+    } else {
+        run(plan, layer, stretch)
     }
-    if plan.span == 2 {
-        return straight_run(plan, false, 2, layer, stretch);
-    }
-    run(plan, layer, stretch)
 }
 
 // How many of a row, with those before it: far cells are passed over, near ones that touch are one stretch.
 fn row<L: Lent>(plan: Plan, layer: L, y: usize, count: usize) -> usize
-    requires { Sound plan (L.held layer) × (y < plan.down) × (count + 4096 < 2 ^ 63) }
+    requires sound { Sound plan (L.held layer) }
+    requires above { y < plan.down }
+    requires few { count + 4096 < 2 ^ 63 }
     ensures { RowCounted (lay plan.shape (L.held layer)) plan.shape.plane y plan.across count result }
 {
     let mut n = count;
@@ -100,10 +105,8 @@ pub fn count<L: Lent>(plan: Plan, layer: L) -> usize
     ensures { Counts (lay plan.shape (L.held layer)) plan.shape.plane result }
 {
     let mut n = 0;
-    let mut y = 0;
-    while y < plan.down {
+    for y in 0..plan.down {
         n = row(plan, layer, y, n);
-        y += 1;
     }
     n
 }

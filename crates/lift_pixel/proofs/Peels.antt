@@ -23,7 +23,7 @@ use Rattle.lift_pixel.specs.Works.{Bytes, rule_of}
 
 -- ---- which are written, by the gap
 
-near_writes : (l : Layer) (plane x y : ℕ) → (gap l plane x y ≼ 0·0) ≡ true → layered l plane x y ≡ not (is_plain (texel l plane x y))
+pub near_writes : (l : Layer) (plane x y : ℕ) → (gap l plane x y ≼ 0·0) ≡ true → layered l plane x y ≡ not (is_plain (texel l plane x y))
 unfolding layered
 near_writes l plane x y t = rw t
 

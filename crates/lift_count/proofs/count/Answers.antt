@@ -7,20 +7,17 @@ use Rattle.lift_count.proofs.Counted.{rows_none, rows_more, counts}
 use Rattle.lift_count.proofs.count.Goals as goal
 
 pub loop-y-init : goal.loop-y-init
-loop-y-init g c = (rows_none, omega arith)
+loop-y-init g c = rows_none
 
-pub row-n-requires : goal.row-n-requires
-row-n-requires g c =
-    let inv = c.loop-y.invariant in
-    (c.requires, c.loop-y-test.true, omega (arith, inv.0.few, c.loop-y-test.true, c.requires.planned.tall.1))
+pub row-n-requires-clause-few : goal.row-n-requires-clause-few
+row-n-requires-clause-few g c = omega (arith, c.loop-y.invariant.few, c.loop-y-test.true, c.requires.planned.tall.1)
 
 pub loop-y-preserved : goal.loop-y-preserved
-loop-y-preserved g c =
-    (rows_more c.requires.planned.wide.1 c.loop-y.invariant.0 c.row-n.ensures, omega arith)
+loop-y-preserved g c = rows_more c.requires.planned.wide.1 c.loop-y.invariant c.row-n.ensures
 
 pub returns : goal.returns
 returns g c =
     let at-loop = c.loop-y in
     let h = c.requires.planned in
     counts (ap (λ (p : Plan). p.across) h.is) (ap (λ (p : Plan). p.down) h.is)
-    (rw (le_antisymm at-loop.invariant.1 c.loop-y-test.false) at at-loop.invariant.0)
+    (rw (le_antisymm (omega arith) c.loop-y-test.false) at at-loop.invariant)

@@ -1,5 +1,5 @@
--- The invariant and the measure of `lift_count::straight_run`.
-use Prim.Native.Nat.{◌+◌, ◌-◌, ◌≤◌}
+-- The invariant of `lift_count::straight_run`: the stretch is counted up to x.
+use Prim.Native.Nat.{◌+◌}
 use Rattle.layer_lent.specs.Lent.{lay}
 use Rattle.lift_count.specs.Counts.{CountedOn}
 use Rattle.lift_count.proofs.straight_run.Given as goal
@@ -7,8 +7,3 @@ use Rattle.lift_count.proofs.straight_run.Given as goal
 abbrev pub invariant-loop-x : goal.invariant-loop-x
 invariant-loop-x g l =
     CountedOn (lay l.plan.shape (g.L.Lent.held l.layer)) l.plan.shape.plane l.stretch.y l.stretch.from l.x l.stretch.count (l.stretch.count + l.n)
-    × (l.stretch.from ≤ l.x)
-    × (l.x ≤ l.stretch.to)
-
-abbrev pub decreases-loop-x : goal.decreases-loop-x
-decreases-loop-x g l = l.stretch.to - l.x
