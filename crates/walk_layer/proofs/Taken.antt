@@ -3,19 +3,19 @@
 use mathlib.Core.Path.{◌≡◌, refl, sym, subst, ◌∙◌}
 use mathlib.Core.Bool.{Bool, true, false, cond, ◌&&◌, false≢true}
 use mathlib.Core.List.{List, [], ◌∷◌}
-use Prim.Native.Nat.{ℕ, zero, suc, ◌+◌, ◌-◌, ◌*◌, ◌%◌, ◌≤◌}
+use Prim.Native.Nat.{ℕ, zero, suc, ◌+◌, ◌-◌, ◌%◌, ◌≤◌}
 use native.Mathlib.Omega.{arith}
 use borrow.Author.Tests.{eqb-false, ltb-false}
 use lib.Dec.{eqb, ltb}
 use lib.ListN.{get_or}
 use lib.IntN.{ℤ}
 use lib.Ieee.{Float}
-use Rattle.std.specs.Prelude.{Result, Ok, Err, MatchResult}
+use Rattle.std.specs.Prelude.{Ok, Err}
 use Rattle.rules.specs.declared.Walk.{Walk}
 use Rattle.rules.specs.declared.Refusal.{Refusal}
 use Rattle.rules.specs.Forms.{Slot, Part, Parts, Fit, part, absent}
 use Rattle.rules.specs.Calls.{FitCall, WalkLayerCall}
-use Rattle.rules.specs.Refusals.{◌unless◌, Table, number_of, numbered, first_fitting, size_rows, work_rows, fit_refusal}
+use Rattle.rules.specs.Refusals.{◌unless◌, Table, number_of, first_fitting, size_rows, work_rows, fit_refusal}
 use Rattle.rules.specs.Fit.{fit_leaves}
 use Rattle.rules.specs.Walk.{chunks, pairs_in, is_left, is_due, slot, part_in, around, walk_size, moved, parts_due, layer_fit, walk_layer_refusal, walk_layer_leaves}
 use Rattle.calls.specs.Lent.{parts_of, fit_of}
@@ -31,7 +31,7 @@ use Rattle.walk_laws.proofs.Due.{Due}
 use Rattle.walk_laws.proofs.Accepted.{due, fit_right}
 use Rattle.walk_laws.proofs.Unseen.{of, Alike, alike_trans, previous_unseen, next_unseen}
 use Rattle.walk_state.specs.Counts.{Room, counts_of, are_long, told_by}
-use Rattle.walk_state.proofs.Numbers.{by_lengths}
+use Rattle.walk_state.proofs.Numbers.{told, by_lengths}
 use Rattle.walk_layer.specs.Call.{numbers_of, slots_by, lengths_by, order_by, taken_by}
 
 -- ---- the parts by their slots
@@ -83,16 +83,6 @@ pub by_name : (parts : Parts) (models : List Float) (kept cover : List ℕ) (out
     → first_fitting (work_rows (fit_with parts m models kept cover output) rows) ≡ r → r ≡ first_fitting (work_rows (fit_with parts n models kept cover output) rows)
 by_name parts models kept cover output rows e is = sym is ∙ rw e
 
--- the last row of a table, by its test
-pub last_row : (refusal : Refusal) (right : Bool) (r : Result Unit Refusal) → MatchResult r (λ _. right ≡ true) (λ e. (right ≡ false) × (e ≡ refusal))
-    → numbered r ≡ first_fitting ((number_of refusal unless right) ∷ [])
-unfolding first_fitting
-last_row refusal right (Ok u) h = rw h
-last_row refusal right (Err e) h = rw (h.0, h.1)
-
-plain : (n : ℕ) → n ≡ 0 * 256 + n
-plain n = omega arith
-
 module _ (w : Walk) (sums : Slices Float) (s : Settings) (models : List Float) (kept cover : List ℕ) (output : Fit) where
   abbrev call : WalkLayerCall
   call = taken_by w sums s models kept cover output
@@ -114,7 +104,7 @@ module _ (w : Walk) (sums : Slices Float) (s : Settings) (models : List Float) (
   refused r is =
       let t = number_some r in
       record {
-        told = rw (← is, t, ← plain (number_of r));
+        told = rw (← is, t, ← told (number_of r));
         output_left = rw (← is, t);
         models_stay = λ f. refl;
         kept_stays = λ f. refl;

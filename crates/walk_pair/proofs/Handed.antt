@@ -1,18 +1,18 @@
 -- A pair that a walk is handed: refused, or added to the slot of its chunk. Assumes nothing.
 use mathlib.Core.Path.{◌≡◌, sym, subst, ◌∙◌}
-use mathlib.Core.Bool.{Bool, true, false}
+use mathlib.Core.Bool.{Bool}
 use mathlib.Core.List.{List, [], ◌∷◌}
-use Prim.Native.Nat.{ℕ, ◌+◌, ◌*◌, ◌%◌}
+use Prim.Native.Nat.{ℕ, ◌+◌, ◌%◌}
 use native.Mathlib.Omega.{arith}
 use lib.ListN.{length, set}
-use Rattle.std.specs.Prelude.{Result, Ok, Err, MatchResult}
+use Rattle.std.specs.Prelude.{Ok, Err}
 use lib.Ieee.{Float}
 use Rattle.rules.specs.declared.Walk.{Walk}
 use Rattle.rules.specs.declared.Refusal.{Refusal}
 use Rattle.rules.specs.Forms.{Slot, absent}
 use Rattle.rules.specs.Calls.{WalkPairCall, StatsCall}
 use Rattle.rules.specs.Domain.{are_slots}
-use Rattle.rules.specs.Refusals.{◌unless◌, Table, number_of, numbered, first_fitting, pair_rows, stats_refusal}
+use Rattle.rules.specs.Refusals.{◌unless◌, Table, number_of, first_fitting, pair_rows, stats_refusal}
 use Rattle.rules.specs.Walk.{chunk_of, pairs_in, is_turn, slot, walk_size, moved, pair_stats, walk_pair_refusal, pair_slots}
 use Rattle.calls.specs.Lent.{slots_of}
 use Rattle.laws.proofs.Answered.{number_some}
@@ -24,7 +24,7 @@ use Rattle.stats.specs.Answered.{Added}
 use Rattle.walk_laws.proofs.Accepted.{stats_right, turn}
 use Rattle.walk_laws.proofs.Due.{few_layers}
 use Rattle.walk_state.specs.Counts.{Room, are_long, told_by}
-use Rattle.walk_state.proofs.Numbers.{by_lengths}
+use Rattle.walk_state.proofs.Numbers.{told, by_lengths}
 use Rattle.walk_pair.specs.declared.Numbers.{Numbers}
 use Rattle.walk_pair.specs.Call.{chunk_numbers, handed_by}
 
@@ -32,16 +32,6 @@ use Rattle.walk_pair.specs.Call.{chunk_numbers, handed_by}
 pub by_names : (first second fields : Slices ℕ) {m n : Stats.Numbers} {long sums : Bool} (rows : Table) {r : ℕ} → m ≡ n → sums ≡ long
     → first_fitting (pair_rows (call_by absent first second fields m) sums rows) ≡ r → r ≡ first_fitting (pair_rows (call_by absent first second fields n) long rows)
 by_names first second fields rows e f is = sym is ∙ rw (e, f)
-
--- the last row of a table, by its test
-pub last : (refusal : Refusal) (right : Bool) (r : Result Unit Refusal) → MatchResult r (λ _. right ≡ true) (λ e. (right ≡ false) × (e ≡ refusal))
-    → numbered r ≡ first_fitting ((number_of refusal unless right) ∷ [])
-unfolding first_fitting
-last refusal right (Ok u) h = rw h
-last refusal right (Err e) h = rw (h.0, h.1)
-
-plain : (n : ℕ) → n ≡ 0 * 256 + n
-plain n = omega arith
 
 -- as many pairs are in the chunk of the next one
 in_chunk : (added : ℕ) → pairs_in added (chunk_of added) ≡ added % 12
@@ -61,7 +51,7 @@ module _ (w : Walk) (slots : List Slot) (first second fields : Slices ℕ) (n : 
   number_is long e is = rw (← e) is
 
   pub refused : (r : Refusal) → number_of r ≡ walk_pair_refusal call → PairTold call slots (told_by (Err r) w)
-  refused r is = let t = number_some r in record { told = rw (← is, t, ← plain (number_of r)); slots_left = rw (← is, t) }
+  refused r is = let t = number_some r in record { told = rw (← is, t, ← told (number_of r)); slots_left = rw (← is, t) }
 
   -- the clip has one pair more
   pub more : 0 ≡ walk_pair_refusal call → Room w 1 0

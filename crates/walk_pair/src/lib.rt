@@ -63,6 +63,7 @@ fn tested(
 }
 
 // Takes a pair, or refuses: the contract is the equation for both. `chroma12` are the sums of plane 2 in slot 1.
+// Kept: nine slices, each lent apart, as the C interface gives them.
 pub fn pair<'f>(
     luma0: &mut [f32],
     chroma01: &mut [f32],
