@@ -26,6 +26,7 @@ pub fn four(bytes: &[u8], at: usize) -> usize
 }
 
 // A whole record: its kind, and where its payload lies.
+// Kept: a kind is a number, as it stands in the bytes: a parcel that comes may hold unknown ones.
 #[derive(Clone, Copy)]
 pub struct Piece {
     pub kind: usize,
