@@ -2,7 +2,7 @@
 -- count".
 use Rattle.std.specs.Prelude.{◌≡◌, ◌≢◌, Bool, true, false, ◌||◌, ℕ, ◌≤◌, ◌<◌, ℤ, pos, neg_ℤ}
 use Rattle.std.specs.Int.Signed.{le_z}
-use Rattle.rules.specs.declared.Answer.{Answer}
+use Rattle.rules.specs.Answers.{Answer}
 use Rattle.rules.specs.declared.Gain.{Gain}
 use Rattle.rules.specs.declared.Offset.{Offset}
 use Rattle.rules.specs.Forms.{Plane, Motion, Layer, Frames, Rule, cells, plane_size}

@@ -1,7 +1,7 @@
 -- The paper's other worked figures, and the mistakes that it names, stated of the rules.
 use Rattle.std.specs.Prelude.{◌≡◌, true, false, cond, List, [], ◌∷◌, ◌++◌, ℕ, eqb, ℤ, pos, negsuc, get_or, replicate, Float}
 use Rattle.std.specs.Float.{nan}
-use Rattle.rules.specs.declared.Answer.{Answer}
+use Rattle.rules.specs.Answers.{Answer}
 use Rattle.rules.specs.Forms.{Plane, Part, Layer, tabulate}
 use Rattle.rules.specs.Literals.{lit, 0·0, 0·5, 1·0, 2·0, 4·0}
 use Rattle.rules.specs.Float.{◌⊕◌, cut, pixel}

@@ -2,7 +2,7 @@
 -- computation.
 use Rattle.std.specs.Prelude.{◌≡◌, [], ◌∷◌, ℕ, ℤ, pos, negsuc}
 use Rattle.std.specs.Float.{nan}
-use Rattle.rules.specs.declared.Answer.{Answer}
+use Rattle.rules.specs.Answers.{Answer}
 use Rattle.rules.specs.Forms.{Plane, Layer}
 use Rattle.rules.specs.Literals.{lit, 0·0, 0·5, 2·5, 8·0}
 use Rattle.rules.specs.Float.{pixel}

@@ -7,7 +7,7 @@ use lib.Ieee.{Float}
 use mir.Syntax.{w32}
 use mir.Val.{to_z, of_z, SFits}
 use mir.Facts.{to_z-of_z}
-use Rattle.rules.specs.declared.Answer.{Answer}
+use Rattle.rules.specs.Answers.{Answer}
 use Rattle.rules.specs.declared.Walked.{Walked}
 use Rattle.rules.specs.Forms.{Motion, Slot}
 use Rattle.rules.specs.Calls.{StatsCall, WalkPairCall}

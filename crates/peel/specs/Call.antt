@@ -4,7 +4,7 @@ use Rattle.std.specs.Borrow.{Bor}
 use Rattle.rules.specs.Calls.{PeelCall, UnpeelCall}
 use Rattle.rules.specs.Peel.{peel_answer, peel_leaves}
 use Rattle.rules.specs.Unpeel.{unpeel_answer, unpeel_leaves}
-use Rattle.rules.specs.declared.Answer.{Answer}
+use Rattle.rules.specs.Answers.{Answer}
 use Rattle.rules.specs.declared.Refusal.{Refusal}
 use Rattle.rules.specs.Refusals.{answered}
 use Rattle.layer_lent.specs.declared.Shape.{Shape}

@@ -57,33 +57,6 @@ pub fn timed(time: f32) -> bool
     within(time, 0.0, 1.0)
 }
 
-// Two tests, or three, joined without a branch of the caller's own.
-pub fn both(a: bool, b: bool) -> bool
-    ensures { result ≡ (a && b) }
-{
-    a && b
-}
-
-pub fn all(a: bool, b: bool, c: bool) -> bool
-    ensures { result ≡ (a && b && c) }
-{
-    both(both(a, b), c)
-}
-
-// One of two tests, without a branch of the caller's own.
-pub fn either(a: bool, b: bool) -> bool
-    ensures { result ≡ (a || b) }
-{
-    a || b
-}
-
-// A yes as 1, a no as 0: a number that can be added or taken off without a branch.
-pub fn bit(b: bool) -> u8
-    ensures { result ≡ cond b 1 0 }
-{
-    if b { 1 } else { 0 }
-}
-
 // One of two values, without a branch of the caller's own.
 pub fn chosen<T: Drop>(yes: bool, new: T, old: T) -> T
     ensures { result ≡ cond yes new old }
@@ -104,13 +77,6 @@ pub fn ensure(right: bool, refusal: Refusal) -> Result<(), Refusal>
     ensures { MatchResult result (λ _. right ≡ true) (λ e. (right ≡ false) × (e ≡ refusal)) }
 {
     if right { Ok(()) } else { Err(refusal) }
-}
-
-// A row of a table of refusals: its number unless all is right, else what the rows after it say.
-pub fn unless(number: u8, right: bool, rest: u8) -> u8
-    ensures { result ≡ cond (not right) number rest }
-{
-    if right { rest } else { number }
 }
 
 // The quotient, 0 for a divisor 0. The common ratios are constants, which spare the processor's division.

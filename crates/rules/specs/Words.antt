@@ -5,7 +5,7 @@ pub use Rattle.std.specs.Int.Signed.{le_z, lt_z}
 pub use Rattle.std.specs.Float.{nan, inf, fin, binary32}
 pub use Rattle.std.specs.Float.Ieee.{up, down}
 unfoldable pub use Rattle.std.specs.Float.Ieee.{of_bits, of_int, to_unsigned, is_nan}
-pub use Rattle.rules.specs.declared.Answer.{Answer}
+pub use Rattle.rules.specs.Answers.{Answer}
 pub use Rattle.rules.specs.declared.Best.{Best}
 pub use Rattle.rules.specs.declared.Found.{Found}
 pub use Rattle.rules.specs.declared.Found.TheVariants.{At, Nothing}
@@ -13,7 +13,7 @@ pub use Rattle.rules.specs.declared.Gain.{Gain}
 pub use Rattle.rules.specs.declared.Model.{Model}
 pub use Rattle.rules.specs.declared.Moved.{Moved}
 pub use Rattle.rules.specs.declared.Offset.{Offset}
-pub use Rattle.rules.specs.declared.Reply.{Reply}
+pub use Rattle.rules.specs.Answers.{Reply}
 pub use Rattle.rules.specs.declared.Ring.{Ring}
 pub use Rattle.rules.specs.declared.Scene.{Scene}
 pub use Rattle.rules.specs.declared.Scene.TheVariants.{Lifted, Raw}

@@ -88,20 +88,6 @@ impl From<Refusal> for u8 {
     }
 }
 
-// What a call answers: the number of its refusal, or 0; and the count of the pixels written.
-#[derive(Clone, Copy)]
-pub struct Answer {
-    pub number: u8,
-    pub count: usize,
-}
-
-// What `empty` answers: a yes or no besides.
-#[derive(Clone, Copy)]
-pub struct Reply {
-    pub answer: Answer,
-    pub yes: bool,
-}
-
 // What a call answers that tells sizes: its answer as one number, and the sizes and the ratio, all 0 when refused. It
 // passes to C as it stands.
 #[repr(C)]

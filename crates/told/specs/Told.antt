@@ -1,6 +1,6 @@
 -- What an exported call tells: its answer as one 64-bit number, and what it leaves in the slices that it may write.
 use Rattle.std.specs.Prelude.{◌≡◌, false, List, ℕ, Float}
-use Rattle.rules.specs.declared.Answer.{Answer}
+use Rattle.rules.specs.Answers.{Answer}
 use Rattle.rules.specs.declared.Walked.{Walked}
 use Rattle.rules.specs.Forms.{Slot, Fit}
 use Rattle.rules.specs.Calls.{FitCall, WalkPairCall, WalkLayerCall}

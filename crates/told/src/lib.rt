@@ -2,10 +2,9 @@
 #![tactic(auto)]
 
 ghost use Rattle.std.specs.Prelude.{◌≡◌, ◌≤◌, ℕ, cond, IfOk};
-ghost use Rattle.rules.specs.Host.{word as word_of, yes_word, reply_word};
 ghost use Rattle.told.specs.Words.{word_by};
 
-use rules::{Answer, Refusal, Reply};
+use rules::Refusal;
 
 // What an accepted call counts: the pixels written; 1 for a yes; nothing.
 pub trait Count {
@@ -49,34 +48,4 @@ pub fn told<T: Count>(done: Result<T, Refusal>) -> u64
         Ok(answer) => answer.count() * 256,
         Err(refusal) => u64::from(u8::from(refusal)),
     }
-}
-
-// An answer without a count.
-pub fn number(a: Answer) -> u64
-    ensures { result ≡ a.number }
-{
-    a.number as u64
-}
-
-// An answer as one number.
-pub fn word(a: Answer) -> u64
-    requires { a.count ≤ 16777216 }
-    ensures { result ≡ word_of a }
-{
-    a.count as u64 * 256 + a.number as u64
-}
-
-// A yes or no as one number: the yes stands in the count's place.
-pub fn yes(answer: bool) -> u64
-    ensures { result ≡ yes_word answer }
-{
-    if answer { 256 } else { 0 }
-}
-
-// The same beside a number.
-pub fn reply(a: Reply) -> u64
-    ensures { result ≡ reply_word a }
-{
-    let n = number(a.answer);
-    if a.yes { 256 + n } else { n }
 }
