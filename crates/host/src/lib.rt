@@ -765,7 +765,7 @@ pub fn safeteal_walk_layer<'s>(
 pub fn safeteal_walk_due(walk: Walk) -> u64
     ensures { result ≡ walk_due_word walk }
 {
-    told::yes(walk_state::asked(walk))
+    told::told(Ok(walk_state::asked(walk)))
 }
 
 // The final rounding and the storing by themselves, for a run over all floats.
