@@ -10,6 +10,7 @@ use assemble_offsets::Sizes;
 use rules::Refusal;
 
 // Chroma's width and height with luma's.
+// Kept: sizes_of takes any numbers, so what makes them right is asked where it is needed and is no field of Sizes.
 pub fn sizes_of(width: usize, height: usize, ratio: usize) -> Sizes
     ensures { result ≡ sizes_of width height ratio }
 {

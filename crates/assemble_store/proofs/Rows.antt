@@ -3,17 +3,14 @@ use mathlib.Core.Path.{◌≡◌, sym, ◌∙◌}
 use mathlib.Core.List.{List}
 use Prim.Native.Nat.{ℕ, ◌+◌, ◌*◌, ◌≤◌, ◌<◌}
 use native.Mathlib.Nat.{mul_assoc, mul_comm, mul-le-mul, mul-le-mul_right, zero-mul, suc-mul}
-use native.Mathlib.Numerals.{add-one}
 use native.Mathlib.Omega.{arith}
 use lib.IntN.{ℤ}
-use lib.Ieee.{Float}
 use Rattle.rules.specs.Model.{Fitted}
-use Rattle.rules.specs.Assembly.{luma_entry, model_slice, assembled}
+use Rattle.rules.specs.Assembly.{assembled}
 use Rattle.assemble_offsets.specs.declared.Sizes.{Sizes}
 use Rattle.assemble_offsets.specs.Sizes.{Formed}
-use Rattle.table.specs.Filled.{Paired}
 use Rattle.table.proofs.Laws.{paired_none, paired_join, paired_whole}
-use Rattle.assemble_store.specs.Entries.{models_of, tail_entry, chroma_entry, PointsStored, Room, RowsStored, Stored}
+use Rattle.assemble_store.specs.Entries.{tail_entry, chroma_entry, Room, RowsStored, Stored}
 
 -- ---- the luma pixels of chroma row y
 
@@ -42,19 +39,6 @@ module _ {sizes : Sizes} {models : List Fitted} {cover : List ℕ} where
         first_done = paired_join s.first_done t.first_done;
         second_done = paired_join s.second_done t.second_done;
       }
-
--- one row
-pub row_done : {sizes : Sizes} (s : List Float) {cover : List ℕ} (y band : ℕ) {pixels : ℕ} {l₀ a₀ b₀ l a b : List ℤ} → band ≡ sizes.ratio * sizes.width → pixels ≡ sizes.width * sizes.height
-    → Paired (luma_entry (model_slice s pixels) pixels) pixels (y * band) (y * band + band) l₀ l
-    → PointsStored sizes (models_of s sizes) cover 1 (y * sizes.chroma_width) (y * sizes.chroma_width + sizes.chroma_width) a₀ a
-    → PointsStored sizes (models_of s sizes) cover 2 (y * sizes.chroma_width) (y * sizes.chroma_width + sizes.chroma_width) b₀ b
-    → RowsStored sizes (models_of s sizes) cover y (y + 1) l₀ a₀ b₀ l a b
-row_done {sizes} s y band e f luma first second =
-    record {
-      luma_done = rw (add-one y, suc-mul y (sizes.ratio * sizes.width)) (rw (e, f) at luma);
-      first_done = rw (add-one y, suc-mul y sizes.chroma_width) first;
-      second_done = rw (add-one y, suc-mul y sizes.chroma_width) second;
-    }
 
 -- all of them are the layer
 pub rows_whole : (sizes : Sizes) (f : Formed sizes) (models : List Fitted) (cover : List ℕ) (l₀ a₀ b₀ l a b : List ℤ) → Room l a b sizes

@@ -22,9 +22,6 @@ use Rattle.distances.proofs.Steps.{Lowered, lowered, ways_before, ways_after, ke
 
 -- ---- a part of a pass
 
-pub passed_none : (P : List ℕ → Type 0) (w : ℕ) (cells : List ℕ) → Passed P P w cells cells
-passed_none P w cells = record { same = refl; leads = λ old k p. (k, p) }
-
 pub passed_more : {P Q R : List ℕ → Type 0} {w : ℕ} {a b c : List ℕ} → Passed P Q w a b → Passed Q R w b c → Passed P R w a c
 passed_more f g = record {
   same = g.same ∙ f.same;

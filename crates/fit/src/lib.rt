@@ -18,6 +18,7 @@ use fit_window::Lent;
 use rules::Refusal;
 
 // The models and the cover: searched, kept, and with distances.
+// Kept: nine slices in the order of the exported call, as the contracts of the evidence name them.
 fn fitted(
     models: &mut [f32],
     kept: &mut [u8],
@@ -59,6 +60,7 @@ fn fitted(
 }
 
 // Fits what is not refused.
+// Kept: nine slices in the order of the exported call, as the contracts of the evidence name them.
 pub fn made(
     models: &mut [f32],
     kept: &mut [u8],
@@ -81,6 +83,7 @@ pub fn made(
 }
 
 // Fits, or refuses: the contract is the equation for both.
+// Kept: nine slices in the order of the exported call, as the contracts of the evidence name them.
 pub fn fit(
     models: &mut [f32],
     kept: &mut [u8],

@@ -9,6 +9,7 @@ ghost use Rattle.fit_keep.specs.Pass.{marked, step_at, reset_step, Work, Sound, 
 use fit_near::{Rough, Verdict};
 
 // What a verdict does to the kept byte of pixel `at` and to its cell.
+// Kept: the kept byte is C's, one of its work slices: 0 nothing was found, 1 it is kept, 2 it is not.
 fn mark(kept: &mut [u8], cover: &mut [u8], at: usize, cell: usize, verdict: Verdict)
     requires pixel { at < length kept.old }
     requires cell { cell < length cover.old }
@@ -51,6 +52,7 @@ fn keep_pixel(kept: &mut [u8], cover: &mut [u8], rough: &Rough, x: usize, y: usi
 }
 
 // A row.
+#[tactic(auto, unfolding(rules::specs::Forms::turns, rules::specs::Forms::scan_row), using(table::proofs::Turns::turns_more))]
 fn keep_row(kept: &mut [u8], cover: &mut [u8], rough: &Rough, y: usize)
     requires work { Work kept.old cover.old rough.now.width rough.now.height }
     requires above { y < rough.now.height }
@@ -65,6 +67,7 @@ fn keep_row(kept: &mut [u8], cover: &mut [u8], rough: &Rough, y: usize)
 }
 
 // The rows, one after the other.
+#[tactic(auto, unfolding(rules::specs::Forms::turns, rules::specs::Forms::scan), using(table::proofs::Turns::turns_more))]
 fn keep_rows(kept: &mut [u8], cover: &mut [u8], rough: &Rough)
     requires { Work kept.old cover.old rough.now.width rough.now.height }
     ensures { (kept.new, cover.new)

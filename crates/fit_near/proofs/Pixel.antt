@@ -30,10 +30,6 @@ pub one_more : (b : Bool) (n : ℕ) → n + bool_byte b ≡ cond b (n + 1) n
 one_more true n = refl
 one_more false n = add-zero n
 
-pub few : (b : Bool) (n m : ℕ) → n ≤ m → cond b (n + 1) n ≤ m + 1
-few true n m h = omega arith
-few false n m h = omega arith
-
 -- what becomes of a pixel, of its model
 pub verdict_is : (models : List Float) (width height x y : ℕ) → x < width → y < height → (m : Model) → m ≡ (model_at models (y * width + x)).model
     → verdict_of (model_slice models (width * height)) (width, height) (y * width + x)

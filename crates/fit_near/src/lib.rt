@@ -11,6 +11,7 @@ ghost use Rattle.fit_near.specs.Verdict.{verdict_of};
 use rules::Model;
 
 // What becomes of a pixel.
+// Kept: three outcomes; an Option of whether a cell is marked would say less of what becomes of a pixel.
 #[derive(Clone, Copy)]
 pub enum Verdict {
     // it is not kept
@@ -70,6 +71,7 @@ impl Rough<'_> {
     }
 
     // How many of a pixel's nine neighbours are set.
+    #[tactic(auto, unfolding(rules::specs::Forms::turns, rules::specs::Forms::how_many, rules::specs::Keeping::near, crate::specs::Verdict::near_below), using(crate::proofs::Pixel::one_more))]
     fn near(&self, x: usize, y: usize) -> usize
         requires left { x < self.now.width }
         requires above { y < self.now.height }

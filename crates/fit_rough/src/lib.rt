@@ -55,6 +55,7 @@ fn put_found(
 }
 
 // A row: "where nothing is found the pixel is passed over as (1, 0)".
+#[tactic(auto, unfolding(rules::specs::Forms::turns, rules::specs::Forms::scan_row), using(table::proofs::Turns::turns_more))]
 fn fit_row(
     models: &mut [f32],
     kept: &mut [u8],
@@ -78,6 +79,7 @@ fn fit_row(
 }
 
 // The rough models. The limit is squared already.
+#[tactic(auto, unfolding(rules::specs::Forms::turns, rules::specs::Forms::scan), using(table::proofs::Turns::turns_more))]
 pub fn fit_rows(models: &mut [f32], kept: &mut [u8], lent: &Lent, sizes: Sizes, settings: Settings)
     requires { Searching lent.now sizes models.old kept.old }
     ensures { Searched (parts_lent lent.now) sizes settings models.new kept.new }

@@ -20,6 +20,7 @@ pub struct Settings {
 }
 
 // The models of the three trials.
+// Kept: three fields by the names of the trials; an array of three would name them by numbers.
 #[derive(Clone, Copy)]
 pub struct Trials {
     pub all: Model,

@@ -37,10 +37,6 @@ order a b = go (ltb a b) refl
     go true e = inl (ltb-true a b e)
     go false e = inr (ltb-false a b e)
 
--- two stretches, one after the other
-pub filled_join : {A : Type 0} {f read : ℕ → A} {lo mid hi : ℕ} → Filled f read lo mid → Filled f read mid hi → Filled f read lo hi
-filled_join {mid = mid} a b k low high = ⊎_elim (λ h. a k low h) (λ h. b k h high) (order k mid)
-
 -- ---- both halves of a slice
 
 -- what f says is stored at place j: there it is so, and what it said of an entry before is so still

@@ -5,10 +5,6 @@ use Rattle.table.proofs.Turns.{turns_more}
 use Rattle.fit_rough.proofs.Pixels.{none_found, one_found}
 use Rattle.fit_rough.proofs.fit_row.Goals as goal
 
-pub loop-x-init : goal.loop-x-init
-unfolding turns scan_row
-loop-x-init c = refl
-
 pub loop-x-preserved-in_default : goal.loop-x-preserved-in_default
 unfolding scan_row
 loop-x-preserved-in_default c =

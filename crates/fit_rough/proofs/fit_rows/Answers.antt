@@ -7,14 +7,6 @@ use Rattle.table.proofs.Turns.{turns_more}
 use Rattle.fit_rough.proofs.Whole.{searched}
 use Rattle.fit_rough.proofs.fit_rows.Goals as goal
 
-pub loop-y-init : goal.loop-y-init
-unfolding turns scan
-loop-y-init c = refl
-
-pub loop-y-preserved : goal.loop-y-preserved
-unfolding scan
-loop-y-preserved c = turns_more _ _ _ _ _ c.loop-y.invariant c.fit_row.ensures
-
 pub returns : goal.returns
 returns c =
     let l = c.loop-y in
