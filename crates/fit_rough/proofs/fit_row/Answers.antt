@@ -1,6 +1,6 @@
 -- What is left to answer of `fit_rough::fit_row`'s goals.
-use mathlib.Core.Path.{refl, sym, ◌∙◌}
-use Rattle.rules.specs.Forms.{turns, scan_row}
+use mathlib.Core.Path.{sym, ◌∙◌}
+use Rattle.rules.specs.Forms.{scan_row}
 use Rattle.table.proofs.Turns.{turns_more}
 use Rattle.fit_rough.proofs.Pixels.{none_found, one_found}
 use Rattle.fit_rough.proofs.fit_row.Goals as goal

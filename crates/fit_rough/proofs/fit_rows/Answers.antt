@@ -1,9 +1,6 @@
 -- What is left to answer of `fit_rough::fit_rows`'s goals.
-use mathlib.Core.Path.{refl}
 use native.Mathlib.Nat.{le_antisymm}
 use native.Mathlib.Omega.{arith}
-use Rattle.rules.specs.Forms.{turns, scan}
-use Rattle.table.proofs.Turns.{turns_more}
 use Rattle.fit_rough.proofs.Whole.{searched}
 use Rattle.fit_rough.proofs.fit_rows.Goals as goal
 
