@@ -162,6 +162,7 @@ fn render_cells<L: Lent>(
     let plan = job.plan;
     let mut run = start;
     let mut x = 0;
+    // Kept: (d) a cell ends where the next one begins; a range over pixels would look for its end at each.
     while x < plan.across {
         let end = layer_cell::cell_end(x, plan.side, plan.across);
         let piece = Piece {

@@ -63,6 +63,7 @@ pub fn of(list: &[u8]) -> Tally {
         all: Count::NONE,
     };
     let mut at = 0;
+    // Kept: (d) only a case that is run says where the next one begins: no range or iterator has the places.
     while at < list.len() {
         let case = Case { list, at };
         let id = case.call() as usize;
