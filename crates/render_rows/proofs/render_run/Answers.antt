@@ -3,7 +3,6 @@ use mathlib.Core.Path.{◌∙◌}
 use native.Mathlib.Nat.{le_antisymm}
 use native.Mathlib.Omega.{arith}
 use mir.Facts.{to_z-of_z}
-use Rattle.lift_rows.proofs.Cells.{run_none}
 use Rattle.render_rows.proofs.Runs.{run_join, part_asks}
 use Rattle.render_rows.proofs.Changes.{near_part}
 use Rattle.render_rows.proofs.render_run.Goals as goal
