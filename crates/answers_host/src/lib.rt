@@ -39,6 +39,7 @@ pub fn apply<'f>(
     frames: [&'f [u8]; 2],
     still: &[u8],
     numbers: still_cells::Numbers,
+    time: f32,
 ) -> u64
     ensures { NotAnswered result }
 {
@@ -52,7 +53,7 @@ pub fn apply<'f>(
         numbers.height,
         still,
         numbers.mask_width,
-        numbers.time,
+        time,
     )
 }
 

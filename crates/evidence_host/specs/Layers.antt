@@ -1,5 +1,4 @@
--- A layer as the functions here are lent it, as bytes: its slices, and the numbers of a shape. (Of numbers it is
--- `of_numbers` of layer_lent.)
+-- A layer as the functions here are lent it, as bytes: its slices, and the numbers of a shape.
 use Rattle.rules.specs.Forms.{Layer}
 use Rattle.rules.specs.Host as Host
 use Rattle.plane.specs.Slices.{slice}

@@ -4,7 +4,8 @@
 #![tactic(auto)]
 
 ghost use Rattle.calls.specs.Lent.{plane_of, fit_of};
-ghost use Rattle.layer_lent.specs.Lent.{of_numbers, output_by, frames_by};
+ghost use Rattle.layer_lent.specs.Lent.{lay, output_by, frames_by};
+ghost use Rattle.plane.specs.Slices.{slice};
 ghost use Rattle.motion.specs.Moves.{motion_of};
 ghost use Rattle.fit_refuse.specs.Call.{fit_by};
 ghost use Rattle.evidence.specs.Evidence.{peel_luma, unpeel_luma, render_plane};
@@ -63,7 +64,7 @@ pub fn fit<'s>(
 pub fn peel<'n>(output: &mut [u8], shape: Shape, numbers: [&'n [i16]; 3], raw: &[u8]) -> u64
     ensures { LaterTold
         (peel_luma (output_by shape output.old) (plane_of raw.now shape.first_pitch))
-        (of_numbers shape numbers.entry) output.new result }
+        (lay shape (slice numbers.entry)) output.new result }
 {
     host::safeteal_peel_numbers(
         numbers[0],
@@ -115,7 +116,7 @@ pub fn unpeel<'n, 'f>(
 ) -> u64
     ensures { LaterTold
         (unpeel_luma (output_by shape output.old) (frames_by shape frames.entry))
-        (of_numbers shape numbers.entry) output.new result }
+        (lay shape (slice numbers.entry)) output.new result }
 {
     host::safeteal_unpeel_numbers(
         numbers[0],
@@ -181,7 +182,7 @@ pub fn render<'n, 'f, 'm>(
     ensures { LaterTold
         (render_plane shape.plane (output_by shape output.old) (frames_by shape frames.entry)
         (motion_of fields.entry grid) algo)
-        (of_numbers shape numbers.entry) output.new result }
+        (lay shape (slice numbers.entry)) output.new result }
 {
     host::safeteal_render(
         numbers[0],

@@ -3,17 +3,14 @@ use mathlib.Core.Path.{◌≡◌}
 use mathlib.Core.List.{List}
 use Prim.Native.Nat.{ℕ}
 use lib.IntN.{ℤ}
-use lib.Ieee.{Float}
 use mir.Syntax.{w32}
 use mir.Val.{to_z, of_z, SFits}
 use mir.Facts.{to_z-of_z}
-use Rattle.rules.specs.Answers.{Answer}
 use Rattle.rules.specs.declared.Walked.{Walked}
 use Rattle.rules.specs.Forms.{Motion, Slot}
-use Rattle.rules.specs.Calls.{StatsCall, WalkPairCall}
+use Rattle.rules.specs.Calls.{WalkPairCall}
 use Rattle.calls.specs.Lent.{motion_by}
 use Rattle.told.specs.Told.{PairTold}
-use Rattle.stats.specs.Answered.{StatsAnswered}
 
 -- a number from its 32 bits
 abbrev pub again : ℤ → ℤ
@@ -25,12 +22,7 @@ pub read_back : (forward_x forward_y backward_x backward_y : List ℕ) (grid_wid
     ≡ motion_by forward_x forward_y backward_x backward_y grid_width grid_height block_width block_height origin_x origin_y pel
 read_back fx fy bx by gw gh a b c d e = rw (to_z-of_z a, to_z-of_z b, to_z-of_z c, to_z-of_z d, to_z-of_z e)
 
--- a call with another name of its motion
-pub by_motion : (c : StatsCall) (m : Motion) {luma chroma1 chroma2 : List Float} {r : Answer} → c.pair.motion ≡ m → StatsAnswered c luma chroma1 chroma2 r
-    → StatsAnswered (record { sums = c.sums; size = c.size; ratio = c.ratio; pair = record { first = c.pair.first; second = c.pair.second; motion = m } }) luma chroma1 chroma2 r
-by_motion c m e d = rw (← e) d
-
--- the same of a pair that a walk is handed
+-- a pair that a walk is handed, with another name of its motion
 pub handed_by_motion : (c : WalkPairCall) (m : Motion) {slots : List Slot} {r : Walked} → c.pair.motion ≡ m → PairTold c slots r
     → PairTold (record { walk = c.walk; slots = c.slots; number = c.number; pair = record { first = c.pair.first; second = c.pair.second; motion = m } }) slots r
 handed_by_motion c m e d = rw (← e) d

@@ -2,11 +2,12 @@
 // contract. Its theorem is the crate parcel_trip's.
 #![tactic(auto)]
 
-ghost use Rattle.std.specs.Prelude.{◌≡◌, true};
+ghost use Rattle.std.specs.Prelude.{◌≡◌, ◌<◌, true, pos, length, get_or};
 ghost use Rattle.rules.specs.Forms.{each};
 ghost use Rattle.rules.specs.Parcel.{is_short};
 ghost use Rattle.calls.specs.Lent.{fit_of};
-ghost use Rattle.layer_lent.specs.Lent.{of_numbers};
+ghost use Rattle.layer_lent.specs.Lent.{lay};
+ghost use Rattle.plane.specs.Slices.{slice};
 ghost use Rattle.parcel_host.specs.Desks.{SentTold};
 
 use layer_lent::Shape;
@@ -20,14 +21,20 @@ pub struct Answers {
     pub read: Sizes,
 }
 
+// Number k of a slice.
+fn number(numbers: &[i16], k: usize) -> i16
+    requires { k < length numbers.now }
+    ensures { result ≡ get_or numbers.now k (pos 0) }
+{
+    numbers[k]
+}
+
 // Each number of a slice has 16 bits: it is so of each that is read, by its type.
 fn are_short(numbers: &[i16])
     ensures { each is_short numbers.now ≡ true }
 {
-    let mut k = 0;
-    while k < numbers.len() {
-        let _ = layer_lent::entry(false, numbers, b"", k);
-        k += 1;
+    for k in 0..numbers.len() {
+        let _ = number(numbers, k);
     }
 }
 
@@ -41,7 +48,7 @@ pub fn sent<'n>(
     shape: Shape,
     numbers: [&'n [i16]; 3],
 ) -> Answers
-    ensures { SentTold (of_numbers shape numbers.entry)
+    ensures { SentTold (lay shape (slice numbers.entry))
         (fit_of luma.old chroma1.old chroma2.old)
         (fit_of luma.new chroma1.new chroma2.new) result }
 {
