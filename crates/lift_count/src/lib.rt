@@ -84,6 +84,7 @@ fn row<L: Lent>(plan: Plan, layer: L, y: usize, count: usize) -> usize
 {
     let mut n = count;
     let mut x = 0;
+    // Kept: x goes on to a cell's end, which no range and no step says.
     while x < plan.across {
         let from = lift_rows::cells_end(plan, layer, y, x, false);
         let to = lift_rows::cells_end(plan, layer, y, from, true);

@@ -42,6 +42,7 @@ fn run<W: Work, L: Lent>(
     count
 }
 
+// Kept: beside run, it stores every byte and counts in 32 bits, without a branch; run makes no byte for a plain pixel.
 // The same by unpeel where a pixel has one gain or four, in straight lines. A loop is compiled for each plane and span.
 fn straight_run<L: Lent, const LUMA: bool, const SPAN: usize>(
     output: &mut [u8],
@@ -106,6 +107,7 @@ pub fn cells_end<L: Lent>(plan: Plan, layer: L, y: usize, from: usize, near: boo
     ensures { CellsTo plan (L.held layer 2) y from near result }
 {
     let mut x = from;
+    // Kept: x goes on to a cell's end, which no range and no step says.
     while x < plan.across {
         if layer_cell::near(layer_cell::distance(plan, layer, x, y)) != near {
             return x;
@@ -131,6 +133,7 @@ fn row<W: Pass, L: Lent>(
 {
     let mut counted = count;
     let mut x = 0;
+    // Kept: x goes on to a cell's end, which no range and no step says.
     while x < plan.across {
         let from = cells_end(plan, layer, y, x, false);
         let to = cells_end(plan, layer, y, from, true);

@@ -132,7 +132,8 @@ fn columns(
 }
 
 // The columns around a pixel, read anew.
-// Kept: (b) the fields come singly: as one value they cost stats 1.03 of its time, for it is not compiled into a row then.
+// Kept: (b) the fields come singly: as one value they cost stats 1.03 of its time, for it is not compiled into a row
+// then.
 pub fn around(
     forward_x: &[u16],
     forward_y: &[u16],

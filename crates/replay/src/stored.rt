@@ -1,5 +1,5 @@
-// A number as the stored list has it, in little-endian bytes. host/compare/src/check/stored.rs says how the list is laid
-// out.
+// A number as the stored list has it, in little-endian bytes. host/compare/src/check/stored.rs says how the list is
+// laid out.
 
 // As many bytes from a place as are asked for; what is read past the list's end is 0.
 fn taken<const N: usize>(list: &[u8], at: usize) -> [u8; N] {

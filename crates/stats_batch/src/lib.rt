@@ -23,7 +23,8 @@ pub struct Layout {
 }
 
 // How far each pixel moves, by the four fields, and the columns to carry on.
-// Kept: (b) an array for each field: a loop over one array is compiled four pixels wide, which made stats twice as fast.
+// Kept: (b) an array for each field: a loop over one array is compiled four pixels wide, which made stats twice as
+// fast.
 #[derive(Clone, Copy)]
 pub struct Shifts {
     pub fx: [f32; 32],

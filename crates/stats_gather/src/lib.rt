@@ -20,7 +20,8 @@ pub struct Task {
 }
 
 // Where a run of pixels begins: its column and row, and the place of its sums.
-// Kept: (b) how many they are is passed beside it: left in structs such numbers cost stats, fit and render 2 to 6 percent.
+// Kept: (b) how many they are is passed beside it: left in structs such numbers cost stats, fit and render 2 to 6
+// percent.
 #[derive(Clone, Copy)]
 pub struct Run {
     pub place: usize,

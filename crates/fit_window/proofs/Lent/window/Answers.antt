@@ -1,5 +1,5 @@
--- What is left to answer of `fit_window::Lent::window`'s goals: where the evidence figure is reached, by the search over
--- the pixel's sums, else by `unseen`.
+-- What is left to answer of `fit_window::Lent::window`'s goals: where the evidence figure is reached, by the search
+-- over the pixel's sums, else by `unseen`.
 use mathlib.Core.Path.{sym}
 use Rattle.fit_window.specs.Lent.{parts_lent}
 use Rattle.fit_window.proofs.Held.{one-window}
