@@ -1,13 +1,14 @@
 -- What a call answers and leaves, by whether it is refused. Assumes nothing.
 use mathlib.Core.Path.{◌≡◌, refl}
-use mathlib.Core.Bool.{false}
+use mathlib.Core.Bool.{Bool, true, false}
+use mathlib.Core.List.{[], ◌∷◌}
 use Prim.Native.Nat.{ℕ}
 use lib.Dec.{eqb}
-use Rattle.std.specs.Prelude.{Ok, Err}
+use Rattle.std.specs.Prelude.{Result, Ok, Err, MatchResult}
 use Rattle.rules.specs.declared.Refusal.{Refusal}
 use Rattle.rules.specs.declared.Refusal.TheVariants.{Size, Ratio, Pitch, Length, Movement, Setting, Pairs, Cut, Kind, Payload, Turn}
 use Rattle.rules.specs.Forms.{answer, leaves}
-use Rattle.rules.specs.Refusals.{number_of, answered}
+use Rattle.rules.specs.Refusals.{◌unless◌, number_of, numbered, first_fitting, answered}
 
 -- no refusal has the number 0
 pub number_some : (r : Refusal) → eqb (number_of r) 0 ≡ false
@@ -22,6 +23,13 @@ number_some Cut = refl
 number_some Kind = refl
 number_some Payload = refl
 number_some Turn = refl
+
+-- the last row of a table, by its test
+pub last_row : (refusal : Refusal) (right : Bool) (r : Result Unit Refusal) → MatchResult r (λ _. right ≡ true) (λ e. (right ≡ false) × (e ≡ refusal))
+    → numbered r ≡ first_fitting ((number_of refusal unless right) ∷ [])
+unfolding first_fitting
+last_row refusal right (Ok u) h = rw h
+last_row refusal right (Err e) h = rw (h.0, h.1)
 
 -- a refused call leaves the old, an accepted one the new
 module _ {A : Type 0} where

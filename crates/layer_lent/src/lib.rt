@@ -1,10 +1,13 @@
-// A layer that is lent as numbers or as little-endian bytes: one body reads both.
+// A layer that is lent as numbers or as little-endian bytes: one body reads both. And a layer with its plan, as one value.
 #![tactic(auto)]
 
-ghost use Rattle.std.specs.Prelude.{◌≡◌, ◌<◌, List, ℕ, ℤ, pos, length, get_or};
+ghost use Rattle.std.specs.Prelude.{◌≡◌, ◌<◌, ⊤, List, ℕ, ℤ, pos, length, get_or};
 ghost use Rattle.rules.specs.Host.{numbers};
 ghost use Rattle.plane.specs.Slices.{slice};
-ghost use Rattle.layer_lent.specs.Lent.{plan_of};
+ghost use Rattle.layer_lent.specs.Lent.{plan_of, Sound};
+ghost use Rattle.sample.specs.Points.{PlaneFits};
+
+use std::alloc::AllocError;
 
 // What a layer is lent with besides its slices, the plane that is worked on, and the numbers of the byte planes over
 // it.
@@ -120,5 +123,48 @@ pub fn planned(shape: Shape) -> Plan
         down: plane::divided(shape.height, span),
         rows: plane::divided(shape.height, shape.ratio),
         side: plane::divided(8, span),
+    }
+}
+
+// A layer with its plan, neither of them refused.
+pub struct Sheet<L: Lent> {
+    pub layer: L,
+    pub plan: Plan,
+    pub ghost sound: { Sound plan (L.held layer) },
+}
+
+impl<L: Lent> Copy for Sheet<L> {}
+
+impl<L: Lent> Clone for Sheet<L> {
+    ghost is_clone = { λ a b. b ≡ a };
+
+    ghost is_infallible = { λ _. ⊤ };
+
+    fn clone(&self) -> Result<Self, AllocError> {
+        Ok(*self)
+    }
+}
+
+// A sheet, and a byte plane over the plane that is worked on.
+pub struct Seen<'r, L: Lent> {
+    pub sheet: Sheet<L>,
+    pub raw: &'r [u8],
+    pub pitch: usize,
+    pub ghost lies: { PlaneFits raw.now pitch sheet.plan.across sheet.plan.down },
+}
+
+impl<L: Lent> Copy for Seen<'_, L> {}
+
+impl<L: Lent> Clone for Seen<'_, L> {
+    ghost is_clone = { λ a b. b.raw.now ≡ a.raw.now };
+
+    ghost is_infallible = { λ _. ⊤ };
+
+    fn clone(&self) -> Result<Self, AllocError> {
+        Ok(Seen {
+            sheet: self.sheet,
+            raw: self.raw,
+            pitch: self.pitch,
+        })
     }
 }

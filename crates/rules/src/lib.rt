@@ -12,6 +12,7 @@ pub struct Model {
 }
 
 // "previous, own and next; previous and own; own and next"
+// Kept: (a) "Form by location" names it, a trial with three variants.
 #[derive(Clone, Copy)]
 pub enum Trial {
     All,
@@ -20,6 +21,7 @@ pub enum Trial {
 }
 
 // "nothing, or a model with the trial it came from"
+// Kept: (a) "Form by location" asks for it in place of an Option.
 #[derive(Clone, Copy)]
 pub enum Found {
     At(Model, Trial),
@@ -35,6 +37,7 @@ pub struct Gain(pub i16);
 pub struct Offset(pub i16);
 
 // "A scene value is either lifted or left raw, one float each way"
+// Kept: (a) "Form by location" names it; a Result would make a raw value a failure.
 #[derive(Clone, Copy)]
 pub enum Scene {
     Lifted(f32),

@@ -27,7 +27,7 @@ impl Count for bool {
     ghost counted = { λ yes. cond yes 1 0 };
 
     fn count(self) -> u64 {
-        if self { 1 } else { 0 }
+        u64::from(self)
     }
 }
 
