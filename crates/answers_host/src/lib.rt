@@ -1,20 +1,25 @@
 // "Refusal 8 is shown never to occur" (02), held to the exported calls: each function here is such a call, lent
 // anything at all, and its contract is that its answer's number is not 8. The theorem is the crate answers'. Numbers
 // that belong together are lent as one struct; of a `shape` a call takes what it is lent itself.
+// Kept: (a) the claim is held to the exported call itself, by each of the arguments that the C interface names: so these
+// stand here again where no other crate's function has the call with its numbers lent so.
 #![tactic(auto)]
 
 ghost use Rattle.answers.specs.Never.{NotAnswered};
 
+use evidence_host::Form;
 use layer_lent::Shape;
 use motion::Grid;
 use rules::Sizes;
 
+// Distances, made of the marks of cells.
 pub fn distances(cells: &mut [u8], width: usize) -> u64
     ensures { NotAnswered result }
 {
     host::safeteal_distances(cells, width)
 }
 
+// The mask of the pixels that stand still between two planes.
 pub fn mask(
     still: &mut [u8],
     first: &[u8],
@@ -34,6 +39,7 @@ pub fn mask(
     )
 }
 
+// Apply: two planes mixed where a mask says that a pixel stands still.
 pub fn apply<'f>(
     output: &mut [u8],
     frames: [&'f [u8]; 2],
@@ -57,6 +63,7 @@ pub fn apply<'f>(
     )
 }
 
+// Hold: the bytes of a held plane weighed into the output by a mask.
 pub fn hold(output: &mut [u8], held: &[u8], mask: &[u8], numbers: still_cells::Numbers) -> u64
     ensures { NotAnswered result }
 {
@@ -72,6 +79,7 @@ pub fn hold(output: &mut [u8], held: &[u8], mask: &[u8], numbers: still_cells::N
     )
 }
 
+// Stats: one pair of frames added to the sums of a part.
 pub fn stats<'f, 'm>(
     luma: &mut [f32],
     chroma1: &mut [f32],
@@ -118,6 +126,7 @@ pub fn stats<'f, 'm>(
     )
 }
 
+// Assemble: models and a cover stored as a layer.
 pub fn assemble(
     luma: &mut [i16],
     chroma1: &mut [i16],
@@ -133,7 +142,7 @@ pub fn assemble(
     host::safeteal_assemble(width, height, ratio, models, cover, luma, chroma1, chroma2)
 }
 
-// evidence_host::fit is safeteal_fit with its sums and numbers lent so.
+// A fit: evidence_host::fit is safeteal_fit with its sums and numbers lent so.
 pub fn fit<'s>(
     models: &mut [f32],
     kept: &mut [u8],
@@ -149,103 +158,26 @@ pub fn fit<'s>(
     evidence_host::fit(models, kept, cover, luma, chroma1, chroma2, sums, numbers)
 }
 
-pub fn peel<'n>(output: &mut [u8], shape: Shape, numbers: [&'n [i16]; 3], raw: &[u8]) -> u64
+// Peel of a plane, on a layer in either form: evidence_host::Form has the exported call of each.
+pub fn peel<L: Form>(output: &mut [u8], shape: Shape, layer: L, raw: &[u8]) -> u64
     ensures { NotAnswered result }
 {
-    host::safeteal_peel_numbers(
-        numbers[0],
-        numbers[1],
-        numbers[2],
-        shape.luma_pitch,
-        shape.chroma_pitch,
-        shape.width,
-        shape.height,
-        shape.ratio,
-        shape.plane,
-        output,
-        shape.output_pitch,
-        raw,
-        shape.first_pitch,
-    )
+    layer.peel(output, shape, raw)
 }
 
-pub fn peel_bytes<'b>(output: &mut [u8], shape: Shape, bytes: [&'b [u8]; 3], raw: &[u8]) -> u64
-    ensures { NotAnswered result }
-{
-    host::safeteal_peel(
-        bytes[0],
-        bytes[1],
-        bytes[2],
-        shape.luma_pitch,
-        shape.chroma_pitch,
-        shape.width,
-        shape.height,
-        shape.ratio,
-        shape.plane,
-        output,
-        shape.output_pitch,
-        raw,
-        shape.first_pitch,
-    )
-}
-
-pub fn unpeel<'n, 'f>(
+// Unpeel of a plane, so.
+pub fn unpeel<'f, L: Form>(
     output: &mut [u8],
     shape: Shape,
-    numbers: [&'n [i16]; 3],
+    layer: L,
     frames: [&'f [u8]; 2],
 ) -> u64
     ensures { NotAnswered result }
 {
-    host::safeteal_unpeel_numbers(
-        numbers[0],
-        numbers[1],
-        numbers[2],
-        shape.luma_pitch,
-        shape.chroma_pitch,
-        shape.width,
-        shape.height,
-        shape.ratio,
-        shape.plane,
-        output,
-        shape.output_pitch,
-        frames[0],
-        shape.first_pitch,
-        frames[1],
-        shape.second_pitch,
-        shape.time,
-    )
+    layer.unpeel(output, shape, frames)
 }
 
-pub fn unpeel_bytes<'b, 'f>(
-    output: &mut [u8],
-    shape: Shape,
-    bytes: [&'b [u8]; 3],
-    frames: [&'f [u8]; 2],
-) -> u64
-    ensures { NotAnswered result }
-{
-    host::safeteal_unpeel(
-        bytes[0],
-        bytes[1],
-        bytes[2],
-        shape.luma_pitch,
-        shape.chroma_pitch,
-        shape.width,
-        shape.height,
-        shape.ratio,
-        shape.plane,
-        output,
-        shape.output_pitch,
-        frames[0],
-        shape.first_pitch,
-        frames[1],
-        shape.second_pitch,
-        shape.time,
-    )
-}
-
-// evidence_host::render is safeteal_render so.
+// Render of a plane: evidence_host::render is safeteal_render so.
 pub fn render<'n, 'f, 'm>(
     output: &mut [u8],
     shape: Shape,
@@ -260,6 +192,7 @@ pub fn render<'n, 'f, 'm>(
     evidence_host::render(output, shape, numbers, frames, fields, grid, algo)
 }
 
+// Whether no cell of a layer is 0.
 pub fn empty<'n>(shape: Shape, numbers: [&'n [i16]; 3]) -> u64
     ensures { NotAnswered result }
 {
@@ -275,6 +208,7 @@ pub fn empty<'n>(shape: Shape, numbers: [&'n [i16]; 3]) -> u64
     )
 }
 
+// A layer written as a parcel.
 pub fn parcel_write<'n>(parcel: &mut [u8], shape: Shape, numbers: [&'n [i16]; 3]) -> u64
     ensures { NotAnswered result }
 {
@@ -291,6 +225,7 @@ pub fn parcel_write<'n>(parcel: &mut [u8], shape: Shape, numbers: [&'n [i16]; 3]
     )
 }
 
+// A parcel read into a layer.
 pub fn parcel_read(
     luma: &mut [i16],
     chroma1: &mut [i16],
@@ -302,6 +237,7 @@ pub fn parcel_read(
     host::safeteal_parcel_read(parcel, luma, chroma1, chroma2)
 }
 
+// The sizes of the layer in a parcel.
 pub fn parcel_sizes(parcel: &[u8]) -> Sizes
     ensures { NotAnswered result.word }
 {

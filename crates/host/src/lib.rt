@@ -1,6 +1,8 @@
 // The C interface. Each function is a thin one over the proved call, with the whole equation as its contract: the
 // answer, count times 256 plus the number, and every element of every slice that the call may write. The symbols are
 // those of `host_c`, a static library: here the functions are for crates that stand on them.
+// Kept: (a) the C interface names each call and each of its arguments. So peel and unpeel stand once for each form that
+// a layer is lent in, and what several calls take, a layer, frames, motion, stands in each of them.
 #![tactic(auto)]
 
 ghost use Rattle.std.specs.Prelude.{◌≡◌};
@@ -31,6 +33,8 @@ use layer_lent::Shape;
 use motion::Grid;
 use rules::{Sizes, Walk, Walked};
 
+// In the complete rows of the given width each cell becomes the least of 255 and of any cell's old byte plus the
+// steps to it.
 pub fn safeteal_distances(cells: &mut [u8], width: usize) -> u64
     ensures { (let c : DistancesCall = record { cells = cells.old; width = width } in
         Told (uncounted (distances_refusal c)) (distances_leaves c) cells.new result) }
@@ -38,6 +42,7 @@ pub fn safeteal_distances(cells: &mut [u8], width: usize) -> u64
     told::told(distances::distances(cells, width))
 }
 
+// Marks with 1 the pixels that stand still between two planes, and the others with 0.
 pub fn safeteal_mask(
     first: &[u8],
     second: &[u8],
@@ -65,6 +70,7 @@ pub fn safeteal_mask(
     told::told(still_mask::mask(still, first, second, pitch, width, height, settings))
 }
 
+// Mixes two planes by the time, where a mask says that the pixel stands still.
 pub fn safeteal_apply<'f>(
     output: &mut [u8],
     output_pitch: usize,
@@ -99,6 +105,7 @@ pub fn safeteal_apply<'f>(
     told::told(still_apply::apply(output, &frames, still, numbers))
 }
 
+// Weighs the bytes of a held plane into the output, by a mask of bytes.
 pub fn safeteal_hold(
     output: &mut [u8],
     output_pitch: usize,
@@ -126,6 +133,7 @@ pub fn safeteal_hold(
     told::told(still_hold::hold(output, held, mask, numbers))
 }
 
+// Adds one pair of frames to the sums of a part; with 0 pairs before, these start from 0.0.
 pub fn safeteal_stats<'f, 'm>(
     luma: &mut [f32],
     chroma1: &mut [f32],
@@ -198,6 +206,7 @@ pub fn safeteal_stats<'f, 'm>(
     told::told(stats::stats(luma, chroma1, chroma2, first, second, fields, numbers))
 }
 
+// Stores models and a cover as a layer.
 pub fn safeteal_assemble(
     width: usize,
     height: usize,
@@ -219,8 +228,9 @@ pub fn safeteal_assemble(
     told::told(assemble::assemble(luma, chroma1, chroma2, width, height, ratio, models, cover))
 }
 
-// `before`, `pairs` and `after` are the pairs of the previous, own and next part. What the work slices (models, kept,
-// cover) hold after acceptance is left free: alone of all slices here.
+// Finds the lettering in the sums of a part and of its neighbours, and stores it as a layer. `before`, `pairs` and
+// `after` are the pairs of the previous, own and next part. What the work slices (models, kept, cover) hold after
+// acceptance is left free: alone of all slices here.
 pub fn safeteal_fit<'s>(
     previous: &'s [f32],
     previous1: &'s [f32],
@@ -278,6 +288,7 @@ pub fn safeteal_fit<'s>(
     told::told(fit::fit(models, kept, cover, luma, chroma1, chroma2, sums, numbers))
 }
 
+// Lifts the lettering off a plane. The layer is lent as bytes.
 pub fn safeteal_peel<'b>(
     luma: &'b [u8],
     chroma1: &'b [u8],
@@ -317,6 +328,7 @@ pub fn safeteal_peel<'b>(
     told::told(view::peel_of(output, shape, [luma, chroma1, chroma2], raw, raw_pitch))
 }
 
+// Lays the lettering back onto a plane between two frames. The layer is lent as bytes.
 pub fn safeteal_unpeel<'b, 'f>(
     luma: &'b [u8],
     chroma1: &'b [u8],
@@ -367,6 +379,7 @@ pub fn safeteal_unpeel<'b, 'f>(
     ))
 }
 
+// Peel with the layer lent as numbers.
 pub fn safeteal_peel_numbers<'n>(
     luma: &'n [i16],
     chroma1: &'n [i16],
@@ -406,6 +419,7 @@ pub fn safeteal_peel_numbers<'n>(
     told::told(view::peel_of(output, shape, [luma, chroma1, chroma2], raw, raw_pitch))
 }
 
+// Unpeel with the layer lent as numbers.
 pub fn safeteal_unpeel_numbers<'n, 'f>(
     luma: &'n [i16],
     chroma1: &'n [i16],
@@ -456,6 +470,7 @@ pub fn safeteal_unpeel_numbers<'n, 'f>(
     ))
 }
 
+// Whether no cell of a layer is 0; the yes stands in the count's place.
 pub fn safeteal_empty<'n>(
     luma: &'n [i16],
     chroma1: &'n [i16],
@@ -486,6 +501,7 @@ pub fn safeteal_empty<'n>(
     told::told(empty::empty(shape, [luma, chroma1, chroma2]))
 }
 
+// Makes a plane of the frame in between near the lettering, with the lettering on it.
 pub fn safeteal_render<'n, 'f, 'm>(
     luma: &'n [i16],
     chroma1: &'n [i16],
@@ -562,6 +578,7 @@ pub fn safeteal_render<'n, 'f, 'm>(
     ))
 }
 
+// Writes a layer as a parcel.
 pub fn safeteal_parcel_write<'n>(
     luma: &'n [i16],
     chroma1: &'n [i16],
@@ -595,6 +612,7 @@ pub fn safeteal_parcel_write<'n>(
     told::told(parcel_write::write(parcel, shape, [luma, chroma1, chroma2]))
 }
 
+// Reads a parcel into a layer, and answers the sizes and the ratio of its head.
 pub fn safeteal_parcel_read(
     parcel: &[u8],
     luma: &mut [i16],
@@ -608,12 +626,14 @@ pub fn safeteal_parcel_read(
     parcel_read::told(parcel_read::read(luma, chroma1, chroma2, parcel))
 }
 
+// The sizes and the ratio of a parcel's head.
 pub fn safeteal_parcel_sizes(parcel: &[u8]) -> Sizes
     ensures { result ≡ parcel_sizes_answer parcel.now }
 {
     parcel_read::told(parcel_read::sizes_of(parcel))
 }
 
+// Starts a walk over a clip of that many pairs.
 pub fn safeteal_walk_start(width: usize, height: usize, ratio: usize, pairs: usize) -> Walked
     ensures { result ≡ walk_start_answer (width, height) ratio pairs }
 {
@@ -628,7 +648,7 @@ pub fn safeteal_walk_start(width: usize, height: usize, ratio: usize, pairs: usi
     walk_state::told(walk_state::start(width, height, ratio, pairs), none)
 }
 
-// Of the sums, `chroma12` are those of plane 2 in slot 1.
+// Hands a pair over to a walk: adds it to the sums of its chunk. Of these, `chroma12` are those of plane 2 in slot 1.
 pub fn safeteal_walk_pair<'f, 'm>(
     walk: Walk,
     luma0: &mut [f32],
@@ -713,7 +733,8 @@ pub fn safeteal_walk_pair<'f, 'm>(
     walk_state::told(done, walk)
 }
 
-// What the work slices (models, kept, cover) hold after acceptance is left free, as in fit.
+// Takes the layer of a walk that is due. What the work slices (models, kept, cover) hold after acceptance is left free,
+// as in fit.
 pub fn safeteal_walk_layer<'s>(
     walk: Walk,
     luma0: &'s [f32],
@@ -761,20 +782,21 @@ pub fn safeteal_walk_layer<'s>(
     walk_state::told(done, walk)
 }
 
-// The yes stands in the count's place, as in empty.
+// Whether a layer of a walk is due. The yes stands in the count's place, as in empty.
 pub fn safeteal_walk_due(walk: Walk) -> u64
     ensures { result ≡ walk_due_word walk }
 {
     told::told(Ok(walk_state::asked(walk)))
 }
 
-// The final rounding and the storing by themselves, for a run over all floats.
+// The final rounding by itself, for a run over all floats.
 pub fn safeteal_pixel(value: f32) -> u64
     ensures { result ≡ pixel_of value }
 {
-    float::pixel(value) as u64
+    u64::from(float::pixel(value))
 }
 
+// The storing by itself, for a run over all floats and scales.
 pub fn safeteal_stored(value: f32, scale: f32) -> i16
     ensures { result ≡ stored value scale }
 {

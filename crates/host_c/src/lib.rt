@@ -1,5 +1,7 @@
 // The symbols of the C interface, as libhost.a has them. Each export is the function of its name in the crate `host`,
 // and has that function's clauses.
+// Kept: (a) a symbol of C has one name and one list of arguments, and a generic function has no symbol. So each call
+// stands here again with its arguments, peel and unpeel once for each form that a layer is lent in.
 #![tactic(auto)]
 
 ghost use Rattle.std.specs.Prelude.{◌≡◌};
@@ -27,6 +29,8 @@ ghost use Rattle.told.specs.Told.{Told, ToldThree, WorkStays, PairTold, LayerTol
 
 use rules::{Sizes, Walk, Walked};
 
+// In the complete rows of the given width each cell becomes the least of 255 and of any cell's old byte plus the
+// steps to it.
 #[unsafe(no_mangle)]
 pub extern "C" fn safeteal_distances(cells: &mut [u8], width: usize) -> u64
     ensures { (let c : DistancesCall = record { cells = cells.old; width = width } in
@@ -35,6 +39,7 @@ pub extern "C" fn safeteal_distances(cells: &mut [u8], width: usize) -> u64
     host::safeteal_distances(cells, width)
 }
 
+// Marks with 1 the pixels that stand still between two planes, and the others with 0.
 #[unsafe(no_mangle)]
 pub extern "C" fn safeteal_mask(
     first: &[u8],
@@ -60,6 +65,7 @@ pub extern "C" fn safeteal_mask(
     )
 }
 
+// Mixes two planes by the time, where a mask says that the pixel stands still.
 #[unsafe(no_mangle)]
 pub extern "C" fn safeteal_apply<'f>(
     output: &mut [u8],
@@ -94,6 +100,7 @@ pub extern "C" fn safeteal_apply<'f>(
     )
 }
 
+// Weighs the bytes of a held plane into the output, by a mask of bytes.
 #[unsafe(no_mangle)]
 pub extern "C" fn safeteal_hold(
     output: &mut [u8],
@@ -124,6 +131,7 @@ pub extern "C" fn safeteal_hold(
     )
 }
 
+// Adds one pair of frames to the sums of a part; with 0 pairs before, these start from 0.0.
 #[unsafe(no_mangle)]
 pub extern "C" fn safeteal_stats<'f, 'm>(
     luma: &mut [f32],
@@ -207,6 +215,7 @@ pub extern "C" fn safeteal_stats<'f, 'm>(
     )
 }
 
+// Stores models and a cover as a layer.
 #[unsafe(no_mangle)]
 pub extern "C" fn safeteal_assemble(
     width: usize,
@@ -229,8 +238,9 @@ pub extern "C" fn safeteal_assemble(
     host::safeteal_assemble(width, height, ratio, models, cover, luma, chroma1, chroma2)
 }
 
-// `before`, `pairs` and `after` are the pairs of the previous, own and next part. What the work slices (models, kept,
-// cover) hold after acceptance is left free: alone of all slices here.
+// Finds the lettering in the sums of a part and of its neighbours, and stores it as a layer. `before`, `pairs` and
+// `after` are the pairs of the previous, own and next part. What the work slices (models, kept, cover) hold after
+// acceptance is left free: alone of all slices here.
 #[unsafe(no_mangle)]
 pub extern "C" fn safeteal_fit<'s>(
     previous: &'s [f32],
@@ -277,6 +287,7 @@ pub extern "C" fn safeteal_fit<'s>(
     )
 }
 
+// Lifts the lettering off a plane. The layer is lent as bytes.
 #[unsafe(no_mangle)]
 pub extern "C" fn safeteal_peel<'b>(
     luma: &'b [u8],
@@ -319,6 +330,7 @@ pub extern "C" fn safeteal_peel<'b>(
     )
 }
 
+// Lays the lettering back onto a plane between two frames. The layer is lent as bytes.
 #[unsafe(no_mangle)]
 pub extern "C" fn safeteal_unpeel<'b, 'f>(
     luma: &'b [u8],
@@ -367,6 +379,7 @@ pub extern "C" fn safeteal_unpeel<'b, 'f>(
     )
 }
 
+// Peel with the layer lent as numbers.
 #[unsafe(no_mangle)]
 pub extern "C" fn safeteal_peel_numbers<'n>(
     luma: &'n [i16],
@@ -409,6 +422,7 @@ pub extern "C" fn safeteal_peel_numbers<'n>(
     )
 }
 
+// Unpeel with the layer lent as numbers.
 #[unsafe(no_mangle)]
 pub extern "C" fn safeteal_unpeel_numbers<'n, 'f>(
     luma: &'n [i16],
@@ -457,6 +471,7 @@ pub extern "C" fn safeteal_unpeel_numbers<'n, 'f>(
     )
 }
 
+// Whether no cell of a layer is 0; the yes stands in the count's place.
 #[unsafe(no_mangle)]
 pub extern "C" fn safeteal_empty<'n>(
     luma: &'n [i16],
@@ -485,6 +500,7 @@ pub extern "C" fn safeteal_empty<'n>(
     )
 }
 
+// Makes a plane of the frame in between near the lettering, with the lettering on it.
 #[unsafe(no_mangle)]
 pub extern "C" fn safeteal_render<'n, 'f, 'm>(
     luma: &'n [i16],
@@ -561,6 +577,7 @@ pub extern "C" fn safeteal_render<'n, 'f, 'm>(
     )
 }
 
+// Writes a layer as a parcel.
 #[unsafe(no_mangle)]
 pub extern "C" fn safeteal_parcel_write<'n>(
     luma: &'n [i16],
@@ -593,6 +610,7 @@ pub extern "C" fn safeteal_parcel_write<'n>(
     )
 }
 
+// Reads a parcel into a layer, and answers the sizes and the ratio of its head.
 #[unsafe(no_mangle)]
 pub extern "C" fn safeteal_parcel_read(
     parcel: &[u8],
@@ -607,6 +625,7 @@ pub extern "C" fn safeteal_parcel_read(
     host::safeteal_parcel_read(parcel, luma, chroma1, chroma2)
 }
 
+// The sizes and the ratio of a parcel's head.
 #[unsafe(no_mangle)]
 pub extern "C" fn safeteal_parcel_sizes(parcel: &[u8]) -> Sizes
     ensures { result ≡ parcel_sizes_answer parcel.now }
@@ -614,6 +633,7 @@ pub extern "C" fn safeteal_parcel_sizes(parcel: &[u8]) -> Sizes
     host::safeteal_parcel_sizes(parcel)
 }
 
+// Starts a walk over a clip of that many pairs.
 #[unsafe(no_mangle)]
 pub extern "C" fn safeteal_walk_start(
     width: usize,
@@ -626,7 +646,7 @@ pub extern "C" fn safeteal_walk_start(
     host::safeteal_walk_start(width, height, ratio, pairs)
 }
 
-// Of the sums, `chroma12` are those of plane 2 in slot 1.
+// Hands a pair over to a walk: adds it to the sums of its chunk. Of these, `chroma12` are those of plane 2 in slot 1.
 #[unsafe(no_mangle)]
 pub extern "C" fn safeteal_walk_pair<'f, 'm>(
     walk: Walk,
@@ -725,7 +745,8 @@ pub extern "C" fn safeteal_walk_pair<'f, 'm>(
     )
 }
 
-// What the work slices (models, kept, cover) hold after acceptance is left free, as in fit.
+// Takes the layer of a walk that is due. What the work slices (models, kept, cover) hold after acceptance is left free,
+// as in fit.
 #[unsafe(no_mangle)]
 pub extern "C" fn safeteal_walk_layer<'s>(
     walk: Walk,
@@ -766,7 +787,7 @@ pub extern "C" fn safeteal_walk_layer<'s>(
     )
 }
 
-// The yes stands in the count's place, as in empty.
+// Whether a layer of a walk is due. The yes stands in the count's place, as in empty.
 #[unsafe(no_mangle)]
 pub extern "C" fn safeteal_walk_due(walk: Walk) -> u64
     ensures { result ≡ walk_due_word walk }
@@ -774,7 +795,7 @@ pub extern "C" fn safeteal_walk_due(walk: Walk) -> u64
     host::safeteal_walk_due(walk)
 }
 
-// The final rounding and the storing by themselves, for a run over all floats.
+// The final rounding by itself, for a run over all floats.
 #[unsafe(no_mangle)]
 pub extern "C" fn safeteal_pixel(value: f32) -> u64
     ensures { result ≡ pixel_of value }
@@ -782,6 +803,7 @@ pub extern "C" fn safeteal_pixel(value: f32) -> u64
     host::safeteal_pixel(value)
 }
 
+// The storing by itself, for a run over all floats and scales.
 #[unsafe(no_mangle)]
 pub extern "C" fn safeteal_stored(value: f32, scale: f32) -> i16
     ensures { result ≡ stored value scale }

@@ -4,6 +4,8 @@ use crate::cases::*;
 use crate::check::Check;
 
 // A call; its number in the list is its place here.
+// Kept: (a) four lists of the calls: no macro of the language writes an enum, and the gate refuses impls by macros of
+// the repository's own.
 #[derive(Clone, Copy)]
 pub enum Call {
     Distances,

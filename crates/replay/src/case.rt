@@ -1,5 +1,4 @@
 // A case of the stored list: what its call takes. Its numbers and its slices are counted from 0.
-use crate::check::Check;
 use crate::stored::Stored;
 
 // Elements that a slice has room for.
@@ -64,10 +63,7 @@ impl<'a> Case<'a> {
     fn shape(self, at: usize) -> Option<(usize, usize)> {
         let width = self.read::<u32>(at) as usize;
         let n = self.read::<u32>(at.saturating_add(4)) as usize;
-        match width {
-            1 | 2 | 4 if n <= ROOM => Some((n, width)),
-            _ => None,
-        }
+        (matches!(width, 1 | 2 | 4) && n <= ROOM).then_some((n, width))
     }
 
     // Where the slice k stands; after the last one, where the right answer stands.
@@ -83,10 +79,8 @@ impl<'a> Case<'a> {
     // How many elements the slice k has, and where they begin; nothing where they are of another width.
     fn elements(self, k: usize, width: usize) -> Option<(usize, usize)> {
         let at = self.slice(k)?;
-        match self.shape(at)? {
-            (n, stored) if stored == width => Some((n, at.saturating_add(8))),
-            _ => None,
-        }
+        let (n, stored) = self.shape(at)?;
+        (stored == width).then_some((n, at.saturating_add(8)))
     }
 
     // The slice k, which has bytes.
@@ -100,10 +94,8 @@ impl<'a> Case<'a> {
         let (n, first) = self.elements(k, S::WIDTH).unwrap_or((0, 0));
         let n = n.min(room.len());
         let lent = &mut room[..n];
-        let mut at = first;
-        for number in lent.iter_mut() {
-            *number = self.read(at);
-            at = at.saturating_add(S::WIDTH);
+        for (k, number) in lent.iter_mut().enumerate() {
+            *number = self.read(first.saturating_add(k.saturating_mul(S::WIDTH)));
         }
         lent
     }

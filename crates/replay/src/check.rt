@@ -37,39 +37,33 @@ impl<'a> Check<'a> {
             return self;
         };
         Check {
-            list: self.list,
             next: Some(at.saturating_add(S::WIDTH)),
             same: self.same && ours.same(S::read(self.list, at)),
+            ..self
         }
     }
 
     // Compares a slice that the call may write.
     pub fn slice<S: Stored>(self, ours: &[S]) -> Check<'a> {
-        let mut check = self;
-        for number in ours {
-            check = check.number(*number);
-        }
-        check
+        ours.iter()
+            .fold(self, |check, number| check.number(*number))
     }
 
     // The comparison after slices that are free where the answer's number is 0.
     pub fn unless_free(self, after: Check<'a>, ours: u64) -> Check<'a> {
-        Check {
-            list: self.list,
-            next: after.next,
-            same: if ours % 256 == 0 {
-                self.same
-            } else {
-                after.same
-            },
+        if ours % 256 == 0 {
+            Check {
+                next: after.next,
+                ..self
+            }
+        } else {
+            after
         }
     }
 
     // Whether the case was compared to its end, and all was right.
     pub fn right(self) -> bool {
-        match self.next {
-            Some(at) => self.same && at <= self.list.len(),
-            None => false,
-        }
+        self.next
+            .is_some_and(|at| self.same && at <= self.list.len())
     }
 }

@@ -4,15 +4,15 @@
 // As many bytes from a place as are asked for; what is read past the list's end is 0.
 fn taken<const N: usize>(list: &[u8], at: usize) -> [u8; N] {
     let mut bytes = [0; N];
-    if let Some(rest) = list.get(at..) {
-        for (byte, stored) in bytes.iter_mut().zip(rest) {
-            *byte = *stored;
-        }
-    }
+    let rest = list.get(at..).unwrap_or(&[]);
+    let n = rest.len().min(N);
+    bytes[..n].copy_from_slice(&rest[..n]);
     bytes
 }
 
 // What a slice of the list may have as its elements.
+// Kept: (a) six impls differ in their type and its bytes alone: the gate refuses impls by macros of the repository's
+// own, and std has no trait of the numbers' `from_le_bytes` that one generic impl could stand on.
 pub trait Stored: Copy + Drop + PartialEq {
     // Bytes of one.
     const WIDTH: usize;
@@ -81,7 +81,7 @@ impl Stored for f32 {
     fn read(list: &[u8], at: usize) -> f32 {
         let bits = u32::read(list, at);
         if bits % 0x8000_0000 > 0x7f80_0000 {
-            return 0.0 / 0.0;
+            return f32::NAN;
         }
         f32::from_bits(bits)
     }
@@ -94,7 +94,7 @@ impl Stored for f32 {
 
 // The bits of a float; of any NaN those of one.
 fn bits(x: f32) -> u32 {
-    if x != x {
+    if x.is_nan() {
         return 0x7fc0_0000;
     }
     f32::to_bits(x)

@@ -5,18 +5,13 @@ use crate::check::Check;
 use std::io;
 
 // Cases that are equal and that are different.
-#[derive(Clone, Copy)]
+#[derive(Clone, Copy, Default, PartialEq)]
 pub struct Count {
     equal: u64,
     different: u64,
 }
 
 impl Count {
-    pub const NONE: Count = Count {
-        equal: 0,
-        different: 0,
-    };
-
     // One more.
     fn add(&mut self, right: bool) {
         if right {
@@ -26,10 +21,6 @@ impl Count {
         }
     }
 
-    fn is_none(self) -> bool {
-        self.equal == 0 && self.different == 0
-    }
-
     // One line.
     fn print(self, rt: &impl Print, name: &str) -> io::Result<()> {
         let Count { equal, different } = self;
@@ -37,10 +28,13 @@ impl Count {
     }
 }
 
+// How many calls the list may have cases of.
+const CALLS: usize = Call::ALL.len();
+
 // A count for each call, and one for all cases.
 #[derive(Clone, Copy)]
 pub struct Tally {
-    calls: [Count; 13],
+    calls: [Count; CALLS],
     all: Count,
 }
 
@@ -48,7 +42,7 @@ impl Tally {
     // A line for each call that the list has cases of. The last line, for all, is there even if the list has no case.
     pub fn print(&self, rt: &impl Print) -> io::Result<()> {
         for (call, count) in Call::ALL.iter().zip(&self.calls) {
-            if !count.is_none() {
+            if *count != Count::default() {
                 count.print(rt, call.name())?;
             }
         }
@@ -59,8 +53,8 @@ impl Tally {
 // Every case of the list. What no call here has cannot be read, nor can what comes after it.
 pub fn of(list: &[u8]) -> Tally {
     let mut tally = Tally {
-        calls: [Count::NONE; 13],
-        all: Count::NONE,
+        calls: [Count::default(); CALLS],
+        all: Count::default(),
     };
     let mut at = 0;
     // Kept: (d) only a case that is run says where the next one begins: no range or iterator has the places.

@@ -1,7 +1,8 @@
 // The claims of a walk held to the exported calls. Their statements and proofs are the crates walk_whole's and
 // evidence_walk's. Each function here is such a call, and its contract says that the walk goes on by it, whatever calls
-// came before; of a layer also that it is the one of the clip held together; and that 8 is not answered. A pair is lent
-// as the exported call is lent it.
+// came before; of a layer also that it is the one of the clip held together; and that 8 is not answered.
+// Kept: (a) a claim is held to the exported call itself, by each of the arguments that the C interface names: so these
+// stand here again. A pair is lent as the exported call is lent it.
 #![tactic(auto)]
 
 ghost use Rattle.calls.specs.Lent.{plane_of, motion_by, pair_of, slots_of, fit_of};

@@ -4,4 +4,4 @@ use Rattle.answers_host.proofs.Other.{told}
 use Rattle.answers_host.proofs.peel.Goals as goal
 
 pub returns : goal.returns
-returns c = told c.safeteal_peel_numbers.ensures (never_eight.peel _)
+returns g c = told c.peel.ensures (never_eight.peel _)

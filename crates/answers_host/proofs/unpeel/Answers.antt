@@ -4,4 +4,4 @@ use Rattle.answers_host.proofs.Other.{told}
 use Rattle.answers_host.proofs.unpeel.Goals as goal
 
 pub returns : goal.returns
-returns c = told c.safeteal_unpeel_numbers.ensures (never_eight.unpeel _)
+returns g c = told c.unpeel.ensures (never_eight.unpeel _)
