@@ -1,8 +1,8 @@
 // "Refusal 8 is shown never to occur" (02), held to the exported calls: each function here is such a call, lent
 // anything at all, and its contract is that its answer's number is not 8. The theorem is the crate answers'. Numbers
 // that belong together are lent as one struct; of a `shape` a call takes what it is lent itself.
-// Kept: (a) the claim is held to the exported call itself, by each of the arguments that the C interface names: so these
-// stand here again where no other crate's function has the call with its numbers lent so.
+// Kept: (a) the claim is held to the exported call itself, by each of the arguments that the C interface names: so
+// these stand here again where no other crate's function has the call with its numbers lent so.
 #![tactic(auto)]
 
 ghost use Rattle.answers.specs.Never.{NotAnswered};
@@ -166,12 +166,7 @@ pub fn peel<L: Form>(output: &mut [u8], shape: Shape, layer: L, raw: &[u8]) -> u
 }
 
 // Unpeel of a plane, so.
-pub fn unpeel<'f, L: Form>(
-    output: &mut [u8],
-    shape: Shape,
-    layer: L,
-    frames: [&'f [u8]; 2],
-) -> u64
+pub fn unpeel<'f, L: Form>(output: &mut [u8], shape: Shape, layer: L, frames: [&'f [u8]; 2]) -> u64
     ensures { NotAnswered result }
 {
     layer.unpeel(output, shape, frames)

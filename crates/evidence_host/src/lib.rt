@@ -166,7 +166,8 @@ pub fn fit<'s>(
     )
 }
 
-// The later call: peel of luma, on a layer in either form. Of bytes the layer is that of the numbers which they stand for.
+// The later call: peel of luma, on a layer in either form. Of bytes the layer is that of the numbers that they stand
+// for.
 pub fn peel<L: Form>(output: &mut [u8], shape: Shape, layer: L, raw: &[u8]) -> u64
     ensures { LaterTold
         (peel_luma (output_by shape output.old) (plane_of raw.now shape.first_pitch))
@@ -176,12 +177,7 @@ pub fn peel<L: Form>(output: &mut [u8], shape: Shape, layer: L, raw: &[u8]) -> u
 }
 
 // Unpeel of luma, on a layer in either form.
-pub fn unpeel<'f, L: Form>(
-    output: &mut [u8],
-    shape: Shape,
-    layer: L,
-    frames: [&'f [u8]; 2],
-) -> u64
+pub fn unpeel<'f, L: Form>(output: &mut [u8], shape: Shape, layer: L, frames: [&'f [u8]; 2]) -> u64
     ensures { LaterTold
         (unpeel_luma (output_by shape output.old) (frames_by shape frames.entry))
         (lay shape (L.held layer)) output.new result }
