@@ -1,29 +1,19 @@
 // Slices of a layer, filled from the payloads of a parcel.
 #![tactic(auto)]
 
-ghost use Rattle.std.specs.Prelude.{◌≡◌, ◌++◌, ◌+◌, ◌*◌, ◌/◌, ◌≤◌, length, take, drop};
+ghost use Rattle.std.specs.Prelude.{◌≡◌, ◌++◌, ◌+◌, ◌*◌, ◌/◌, ◌≤◌, length};
 ghost use Rattle.rules.specs.Host.{numbers};
 ghost use Rattle.table.specs.Put.{Put};
 ghost use Rattle.parcel_fill.specs.Fills.{zeros, mark_row, mark_rows, RowFits, MarksFit};
 
 // The numbers of a payload, from a place of the output on.
-fn fill(output: &mut [i16], at: usize, payload: &[u8])
+pub fn fill(output: &mut [i16], at: usize, payload: &[u8])
     requires { at + length payload.now / 2 ≤ length output.old }
     ensures { Put output.old at (numbers payload.now) output.new }
 {
     for k in 0..payload.len() / 2 {
         output[at + k] = i16::from_le_bytes([payload[k * 2], payload[k * 2 + 1]]);
     }
-}
-
-// So many numbers, whose bytes lie at a place of a parcel.
-pub fn fill_from(output: &mut [i16], at: usize, parcel: &[u8], start: usize, count: usize)
-    requires inside { start + 2 * count ≤ length parcel.now }
-    requires room { at + count ≤ length output.old }
-    ensures { Put output.old at (numbers (take (2 * count) (drop start parcel.now))) output.new }
-{
-    let end = start + 2 * count;
-    fill(output, at, &parcel[start..end]);
 }
 
 // So many zeros.

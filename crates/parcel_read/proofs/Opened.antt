@@ -20,20 +20,16 @@ use Rattle.calls.specs.Lent.{fit_of}
 use Rattle.laws.proofs.Answered.{number_some}
 use Rattle.laws.proofs.Accepted.{both, row_right, sizes_in, ratio_in, cells_in, Side, Shrinks}
 use Rattle.table.proofs.Refusals.{late}
-use Rattle.parcel_records.specs.declared.Place.{Place}
-use Rattle.parcel_records.specs.Steps.{Placed}
 use Rattle.parcel_refuse.specs.declared.Contents.{Contents}
 use Rattle.parcel_refuse.specs.declared.Head.{Head}
 use Rattle.parcel_refuse.specs.Surveys.{Seen}
-use Rattle.parcel_refuse.proofs.Known.{payload_long}
-use Rattle.parcel_read.specs.Read.{points_of, Lies, Opened, told_of, read_by, ReadTold}
+use Rattle.parcel_read.specs.Read.{points_of, Holds, Opened, told_of, read_by, ReadTold}
 
--- ---- a payload of the length that its head calls for lies at its place
+-- ---- a payload of the length that its head calls for
 
-lies : (parcel : List ℕ) (kind : ℕ) (p : Place) (count : ℕ) → Placed parcel kind p → eqb (length (payload_of kind (records parcel))) (2 * count) ≡ true → Lies parcel kind p.start count
-lies parcel kind p count at e =
-    let long : p.length ≡ 2 * count = sym (payload_long parcel kind p at) ∙ eqb-true (length (payload_of kind (records parcel))) (2 * count) e in
-    record { inside = omega (arith, at.inside, long); payload = at.payload ∙ rw long }
+holds : (parcel : List ℕ) (kind : ℕ) (payload : List ℕ) (count : ℕ) → payload_of kind (records parcel) ≡ payload → eqb (length (payload_of kind (records parcel))) (2 * count) ≡ true
+    → Holds parcel kind payload count
+holds parcel kind payload count is e = record { long = rw is at (eqb-true (length (payload_of kind (records parcel))) (2 * count) e); is = is }
 
 module _ (parcel : List ℕ) (s : Contents) (seen : Seen parcel s) (accepted : 0 ≡ parcel_sizes_refusal parcel) where
   -- ---- its head
@@ -93,7 +89,7 @@ module _ (parcel : List ℕ) (s : Contents) (seen : Seen parcel s) (accepted : 0
   pub opened : Opened parcel s
   unfolding pixels marks
   opened =
-      let at = seen.places in
+      let at = seen.held in
       let e = each_long in
       let r = shrinks in
       record {
@@ -105,11 +101,11 @@ module _ (parcel : List ℕ) (s : Contents) (seen : Seen parcel s) (accepted : 0
         across = r.across;
         down = r.down;
         narrow = cells_in s.head.width s.head.ratio r.few.1 r.whole_across;
-        gains = lies parcel 2 s.places.gains pixels at.gains e.0;
-        offsets = lies parcel 3 s.places.offsets pixels at.offsets e.1;
-        first = lies parcel 4 s.places.first (points_of s.head) at.first e.2;
-        second = lies parcel 5 s.places.second (points_of s.head) at.second e.3;
-        marks = lies parcel 6 s.places.cells marks at.cells e.4;
+        gains = holds parcel 2 s.payloads.gains.now pixels at.gains e.0;
+        offsets = holds parcel 3 s.payloads.offsets.now pixels at.offsets e.1;
+        first = holds parcel 4 s.payloads.first.now (points_of s.head) at.first e.2;
+        second = holds parcel 5 s.payloads.second.now (points_of s.head) at.second e.3;
+        marks = holds parcel 6 s.payloads.cells.now marks at.cells e.4;
       }
 
 -- ---- the reader's answer, and what it leaves

@@ -1,5 +1,5 @@
 -- What is known of a parcel that is not refused; a call of the reader by what it is lent, and what the reader tells.
-use Rattle.std.specs.Prelude.{◌≡◌, List, ℕ, ◌+◌, ◌*◌, ◌/◌, ◌≤◌, ℤ, length, take, drop, Result, Ok, Err}
+use Rattle.std.specs.Prelude.{◌≡◌, List, ℕ, ◌*◌, ◌/◌, ◌≤◌, ℤ, length, Result, Ok, Err}
 use Rattle.rules.specs.declared.Sizes.{Sizes}
 use Rattle.rules.specs.declared.Refusal.{Refusal}
 use Rattle.rules.specs.Forms.{cells}
@@ -14,10 +14,10 @@ use Rattle.parcel_refuse.specs.declared.Contents.{Contents}
 abbrev pub points_of : Head → ℕ
 points_of h = h.width / h.ratio * (h.height / h.ratio)
 
--- so many numbers of a kind lie at a place of a parcel
-pub record Lies (parcel : List ℕ) (kind start count : ℕ) : Type 0 where
-  pub inside : start + 2 * count ≤ length parcel
-  pub payload : payload_of kind (records parcel) ≡ take (2 * count) (drop start parcel)
+-- a payload is that of a kind, of so many numbers
+pub record Holds (parcel : List ℕ) (kind : ℕ) (payload : List ℕ) (count : ℕ) : Type 0 where
+  pub long : length payload ≡ 2 * count
+  pub is : payload_of kind (records parcel) ≡ payload
 
 -- a parcel that is not refused
 pub record Opened (parcel : List ℕ) (s : Contents) : Type 0 where
@@ -29,11 +29,11 @@ pub record Opened (parcel : List ℕ) (s : Contents) : Type 0 where
   pub across : (1 ≤ s.head.width / s.head.ratio) × (s.head.width / s.head.ratio ≤ 4096)
   pub down : (1 ≤ s.head.height / s.head.ratio) × (s.head.height / s.head.ratio ≤ 4096)
   pub narrow : cells s.head.width ≤ s.head.width / s.head.ratio
-  pub gains : Lies parcel 2 s.places.gains.start (s.head.width * s.head.height)
-  pub offsets : Lies parcel 3 s.places.offsets.start (s.head.width * s.head.height)
-  pub first : Lies parcel 4 s.places.first.start (points_of s.head)
-  pub second : Lies parcel 5 s.places.second.start (points_of s.head)
-  pub marks : Lies parcel 6 s.places.cells.start (cells s.head.width * cells s.head.height)
+  pub gains : Holds parcel 2 s.payloads.gains.now (s.head.width * s.head.height)
+  pub offsets : Holds parcel 3 s.payloads.offsets.now (s.head.width * s.head.height)
+  pub first : Holds parcel 4 s.payloads.first.now (points_of s.head)
+  pub second : Holds parcel 5 s.payloads.second.now (points_of s.head)
+  pub marks : Holds parcel 6 s.payloads.cells.now (cells s.head.width * cells s.head.height)
 
 -- an answer that tells the sizes of a parcel
 abbrev pub told_of : Result Head Refusal → Sizes

@@ -42,7 +42,7 @@ pub fn sizes_of(parcel: &[u8]) -> Result<Head, Refusal>
 #[derive(Clone, Copy)]
 struct Parcel<'p> {
     bytes: &'p [u8],
-    contents: Contents,
+    contents: Contents<'p>,
     ghost opened: { Opened bytes.now contents },
 }
 
@@ -57,51 +57,51 @@ fn unpacked<'p>(bytes: &'p [u8]) -> Result<Parcel<'p>, Refusal>
 
 impl Parcel<'_> {
     // Luma: its gains, and its offsets behind them.
+    #[tactic(auto, using(crate::proofs::Fills::luma_read))]
     fn fill_luma(self, luma: &mut [i16])
         requires { length luma.old ≡ 2 * (self.contents.head.width * self.contents.head.height) }
         ensures { luma.new ≡ (layer_read self.entry.bytes.now).luma }
     {
-        let Contents { head, places } = self.contents;
-        let pixels = head.width * head.height;
-        parcel_fill::fill_from(luma, 0, self.bytes, places.gains.start, pixels);
-        parcel_fill::fill_from(luma, pixels, self.bytes, places.offsets.start, pixels);
+        let Contents { head, payloads } = self.contents;
+        parcel_fill::fill(luma, 0, payloads.gains);
+        parcel_fill::fill(luma, head.width * head.height, payloads.offsets);
     }
 
     // Plane 1: its offsets, and nothing behind them.
+    #[tactic(auto, using(crate::proofs::Fills::first_read, crate::proofs::Fills::product))]
     fn fill_first(self, chroma: &mut [i16])
         requires { length chroma.old ≡ 2 * points_of self.contents.head }
         ensures { chroma.new ≡ (layer_read self.entry.bytes.now).chroma.0 }
     {
-        let Contents { head, places } = self.contents;
+        let Contents { head, payloads } = self.contents;
         let across = plane::divided(head.width, head.ratio);
         let points = across * plane::divided(head.height, head.ratio);
-        parcel_fill::fill_from(chroma, 0, self.bytes, places.first.start, points);
+        parcel_fill::fill(chroma, 0, payloads.first);
         parcel_fill::clear(chroma, points, points);
     }
 
     // Plane 2: its offsets, and the cells behind them.
+    #[tactic(auto, using(crate::proofs::Fills::second_read))]
     fn fill_second(self, chroma: &mut [i16])
         requires { length chroma.old ≡ 2 * points_of self.contents.head }
         ensures { chroma.new ≡ (layer_read self.entry.bytes.now).chroma.1 }
     {
-        let Contents { head, places } = self.contents;
+        let Contents { head, payloads } = self.contents;
         let across = plane::divided(head.width, head.ratio);
         let rows = plane::divided(head.height, head.ratio);
-        let points = across * rows;
-        parcel_fill::fill_from(chroma, 0, self.bytes, places.second.start, points);
         let marks = Marks {
             width: head.width,
             height: head.height,
             across,
             rows,
         };
-        let cells = places.cells.start;
-        let end = cells + 2 * (table::cells(head.width) * table::cells(head.height));
-        parcel_fill::fill_rows(chroma, points, &self.bytes[cells..end], marks);
+        parcel_fill::fill(chroma, 0, payloads.second);
+        parcel_fill::fill_rows(chroma, across * rows, payloads.cells, marks);
     }
 }
 
 // The layer that a parcel holds, or a refusal: the contract is the equation for both.
+#[tactic(auto, using(crate::proofs::Opened::read_no, crate::proofs::Opened::read_short, crate::proofs::Opened::read_yes))]
 pub fn read(
     luma: &mut [i16],
     chroma1: &mut [i16],

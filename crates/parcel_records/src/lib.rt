@@ -1,9 +1,10 @@
 // The records of a parcel, as they lie in its bytes.
 #![tactic(auto)]
 
-ghost use Rattle.std.specs.Prelude.{◌≡◌, ◌+◌, ◌*◌, ◌<◌, ◌≤◌, length, MatchOption};
+ghost use Rattle.std.specs.Prelude.{◌≡◌, ◌+◌, ◌*◌, ◌<◌, ◌≤◌, [], length, MatchOption, MatchResult};
 ghost use Rattle.rules.specs.Host.{little};
-ghost use Rattle.parcel_records.specs.Steps.{step_at, count_of, often_in, noted_of, Missing, Placed};
+ghost use Rattle.rules.specs.declared.Refusal.TheVariants.{Cut};
+ghost use Rattle.parcel_records.specs.Steps.{splits, Begins, count_of, often_in, noted_of, Missing, Placed};
 
 use rules::Refusal;
 
@@ -25,41 +26,58 @@ pub fn four(bytes: &[u8], at: usize) -> usize
     u32::from_le_bytes([bytes[at], bytes[at + 1], bytes[at + 2], bytes[at + 3]]) as usize
 }
 
-// A whole record: its kind, and where its payload lies.
+// A whole record: its kind, and its payload.
 // Kept: a kind is a number, as it stands in the bytes: a parcel that comes may hold unknown ones.
 #[derive(Clone, Copy)]
-pub struct Piece {
+pub struct Piece<'p> {
     pub kind: usize,
-    pub start: usize,
-    pub length: usize,
+    pub payload: &'p [u8],
 }
 
-// Where a record begins.
+// The record that bytes begin with, and the bytes behind it. One that is cut short is refused.
+#[tactic(auto, using(crate::proofs::Walk::none_headed, crate::proofs::Walk::none_paid, crate::proofs::Walk::one_begins))]
+fn first(bytes: &[u8]) -> Result<(Piece<'_>, &[u8]), Refusal>
+    ensures { MatchResult result
+        (λ p. Begins bytes.now p.0 p.1.now)
+        (λ e. (splits bytes.now ≡ ([], bytes.now)) × (e ≡ Cut)) }
+{
+    let (head, rest) = bytes.split_at_checked(6).ok_or(Refusal::Cut)?;
+    let (payload, left) = rest.split_at_checked(four(head, 0)).ok_or(Refusal::Cut)?;
+    let kind = two(head, 4);
+    Ok((Piece { kind, payload }, left))
+}
+
+// The records of a parcel, one after another; `left` are the bytes behind those that were given. The last item is a
+// refusal where a record is cut short.
 #[derive(Clone, Copy)]
-pub struct Cursor {
-    pub at: usize,
+struct Records<'p> {
+    left: &'p [u8],
 }
 
-impl Cursor {
-    // The record that begins at a cursor: none at the parcel's end. One that is cut short is refused.
-    pub fn step(self, parcel: &[u8]) -> Result<Option<Piece>, Refusal>
-        ensures { result ≡ step_at parcel.now self.at }
-    {
-        let at = self.at;
-        let size = parcel.len();
-        if size <= at {
-            return Ok(None);
+impl<'p> Iterator for Records<'p> {
+    ghost use Rattle.std.specs.Iterator.{at_most};
+    ghost use Rattle.parcel_records.specs.Steps.{Gives};
+
+    type Item = Result<Piece<'p>, Refusal>;
+
+    ghost next_gives = { Gives };
+
+    ghost remaining = { λ s. at_most (length s.left.now) };
+
+    fn next(&mut self) -> Option<Result<Piece<'p>, Refusal>> {
+        if self.left.is_empty() {
+            return None;
         }
-        plane::ensure(6 <= size - at, Refusal::Cut)?;
-        let length = four(parcel, at);
-        let start = at + 6;
-        plane::ensure(length <= size - start, Refusal::Cut)?;
-        let kind = two(parcel, at + 4);
-        Ok(Some(Piece {
-            kind,
-            start,
-            length,
-        }))
+        match first(self.left) {
+            Ok((piece, left)) => {
+                self.left = left;
+                Some(Ok(piece))
+            }
+            Err(refusal) => {
+                self.left = &[];
+                Some(Err(refusal))
+            }
+        }
     }
 }
 
@@ -67,53 +85,49 @@ impl Cursor {
 pub fn count(parcel: &[u8]) -> Result<usize, Refusal>
     ensures { result ≡ count_of parcel.now }
 {
-    let mut at = 0;
     let mut n = 0;
-    while let Some(piece) = (Cursor { at }).step(parcel)? {
-        at = piece.start + piece.length;
+    for piece in (Records { left: parcel }) {
+        piece?;
         n += 1;
     }
     Ok(n)
 }
 
-// How often a kind occurs, and where the payload of the first such record lies.
+// How often a kind occurs, and the payload of the first such record.
 #[derive(Clone, Copy)]
-pub struct Place {
+pub struct Place<'p> {
     pub often: usize,
-    pub start: usize,
-    pub length: usize,
+    pub payload: &'p [u8],
 }
 
 // A place, with one more record of its kind seen.
-fn noted(place: Option<Place>, piece: Piece) -> Place
+fn noted<'p>(place: Option<Place<'p>>, piece: Piece<'p>) -> Place<'p>
     requires { often_in place < 18446744073709551615 }
-    ensures { result ≡ noted_of place piece }
+    ensures { result ≡ noted_of place.entry piece.entry }
 {
     match place {
         None => Place {
             often: 1,
-            start: piece.start,
-            length: piece.length,
+            payload: piece.payload,
         },
         Some(first) => Place {
             often: first.often + 1,
-            start: first.start,
-            length: first.length,
+            ..first
         },
     }
 }
 
 // The place of a kind among a parcel's whole records, if it has one.
-pub fn find(parcel: &[u8], kind: usize) -> Option<Place>
+#[tactic(auto, using(crate::proofs::Walk::find_one, crate::proofs::Walk::find_cut, crate::proofs::Walk::found))]
+pub fn find(parcel: &[u8], kind: usize) -> Option<Place<'_>>
     ensures { MatchOption result (Missing parcel.now kind) (λ p. Placed parcel.now kind p) }
 {
     let mut place = None;
-    let mut at = 0;
-    while let Ok(Some(piece)) = (Cursor { at }).step(parcel) {
-        if piece.kind == kind {
-            place = Some(noted(place, piece));
+    for piece in (Records { left: parcel }) {
+        match piece {
+            Ok(piece) if piece.kind == kind => place = Some(noted(place, piece)),
+            _ => {}
         }
-        at = piece.start + piece.length;
     }
     place
 }

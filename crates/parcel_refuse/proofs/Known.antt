@@ -2,18 +2,16 @@
 use mathlib.Core.Path.{◌≡◌, refl, ap, ◌∙◌}
 use mathlib.Core.Bool.{Bool, true, false, cond, ◌&&◌}
 use mathlib.Core.List.{List, [], ◌∷◌}
-use Prim.Native.Nat.{ℕ, zero, suc, ◌+◌, ◌-◌, ◌≤◌, ◌<◌}
+use Prim.Native.Nat.{ℕ, zero, suc, ◌+◌, ◌-◌, ◌≤◌}
 use native.Mathlib.Omega.{arith}
 use borrow.Author.Tests.{leb-true, le-leb, lt-leb, eqb-true, ne_eqb}
 use lib.Dec.{eqb, leb}
-use lib.ListN.{length, drop, length-drop}
-use lib.Seq.{length-take-le, get_or-take, get_or-drop}
+use lib.ListN.{length}
 use Rattle.rules.specs.Forms.{turns, all, each}
 use Rattle.rules.specs.Host.{little}
-use Rattle.rules.specs.Parcel.{Record, length_at, begins_whole, first_record, records, head_first, are_known, how_often, once_each, kinds_right, payload_of}
+use Rattle.rules.specs.Parcel.{Record, length_at, begins_whole, first_record, records, head_first, are_known, how_often, once_each, kinds_right}
 use Rattle.laws.proofs.Accepted.{both}
-use Rattle.parcel_records.specs.Steps.{Placed, splits}
-use Rattle.parcel_records.specs.declared.Place.{Place}
+use Rattle.parcel_records.specs.Steps.{splits}
 use Rattle.parcel_records.proofs.Split.{later, opened}
 
 -- ---- how many there are
@@ -131,22 +129,3 @@ first_is parcel six = go (begins_whole parcel) refl (opened parcel)
 -- so the kinds are right where the first is the head's and each is there once
 pub kinds_are : (parcel : List ℕ) → length (records parcel) ≡ 6 → kinds_right (records parcel) ≡ (eqb (little 2 parcel 4) 1 && once_each (records parcel))
 kinds_are parcel six = kinds_of_six (records parcel) six ∙ rw (first_is parcel six).1
-
--- ---- payloads
-
-module _ (parcel : List ℕ) (kind : ℕ) (p : Place) (at : Placed parcel kind p) where
-  pub payload_long : length (payload_of kind (records parcel)) ≡ p.length
-  payload_long = rw at.payload (length-take-le p.length (drop p.start parcel) (rw (length-drop p.start parcel) (omega (arith, at.inside))))
-
-  -- a number of two bytes in it
-  pub number_at : (k : ℕ) → k + 1 < p.length → little 2 (payload_of kind (records parcel)) k ≡ little 2 parcel (p.start + k)
-  number_at k inside =
-      let next : p.start + (k + 1) ≡ p.start + k + 1 = omega arith in
-      rw (
-        at.payload,
-        get_or-take p.length (drop p.start parcel) k 0 (omega arith),
-        get_or-take p.length (drop p.start parcel) (k + 1) 0 inside,
-        get_or-drop p.start parcel k 0,
-        get_or-drop p.start parcel (k + 1) 0,
-        next,
-      )
