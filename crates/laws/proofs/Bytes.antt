@@ -40,11 +40,6 @@ pub written_last : (list : List ℤ) (z : ℤ) → written (list ++ z ∷ []) �
 unfolding written
 written_last list z = written-append list (z ∷ []) ∙ rw (append-nil (in_bytes 2 (bits z)))
 
--- four bytes are two and two
-pub in_four : (value : ℕ) → in_bytes 4 value ≡ in_bytes 2 value ++ in_bytes 2 (value / 65536)
-unfolding in_bytes
-in_four value = let e : value / 256 / 256 ≡ value / 65536 = omega arith in rw e
-
 -- ---- a number and its two bytes
 
 bits_back : (z : ℤ) → is_short z ≡ true → signed16 (bits z) ≡ z

@@ -6,10 +6,9 @@ use native.Mathlib.Omega.{arith}
 use borrow.Author.Tests.{le-leb, lt-leb, eq-eqb, ne_eqb}
 use lib.ListN.{length, take, drop}
 use lib.Seq.{drop-drop, get_or-take}
-use Rattle.std.specs.Prelude.{Option, Some, None, Ok, Err, MatchOption}
+use Rattle.std.specs.Prelude.{Option, Some, None, Ok, MatchOption}
 use Rattle.std.specs.List.{IsSplitAt}
 use Rattle.rules.specs.Host.{little}
-use Rattle.rules.specs.declared.Refusal.TheVariants.{Cut}
 use Rattle.rules.specs.Parcel.{length_at, records, how_often, payload_of}
 use Rattle.parcel_records.specs.declared.Piece.{Piece}
 use Rattle.parcel_records.specs.declared.Place.{Place}
@@ -50,24 +49,12 @@ module _ (bytes : List ℕ) where
 -- ---- counting
 
 module _ (parcel left : List ℕ) (n : ℕ) (c : Counting parcel left n) where
-  pub count_more : (p : Piece) (behind : List ℕ) → Begins left p behind → Counting parcel behind (n + 1)
-  count_more p behind b =
-      record {
-        few = omega (arith, b.fewer, c.few);
-        total = omega (arith, rw b.is at c.total);
-        behind = rw b.is at c.behind;
-      }
-
-  -- nothing is left, or a record cut short
+  -- nothing is left
   pub count_end : length left ≡ 0 → Ok n ≡ count_of parcel
   count_end e =
       let s = none_headed left (omega arith) in
       let total : n ≡ length (records parcel) = omega (arith, rw s at c.total) in
       rw (eq-eqb (length (splits parcel).1) 0 (rw (← (rw s at c.behind)) e), total)
-
-  pub count_cut : splits left ≡ ([], left) → 0 < length left → Err Cut ≡ count_of parcel
-  count_cut s more =
-      rw (ne_eqb (length (splits parcel).1) 0 (rw (← (rw s at c.behind)) (λ e. omega arith)))
 
 -- ---- finding
 

@@ -7,22 +7,13 @@ use borrow.Author.Tests.{eqb-true}
 use native.Mathlib.Omega.{arith}
 use lib.Dec.{eqb}
 use lib.ListN.{length}
-use Rattle.std.specs.Prelude.{Result, Ok, Err, MatchResult}
-use Rattle.rules.specs.declared.Refusal.{Refusal}
-use Rattle.rules.specs.declared.Refusal.TheVariants.{Length}
 use Rattle.rules.specs.Domain.{parcel_length}
-use Rattle.rules.specs.Refusals.{◌unless◌, numbered, parcel_write_refusal, first_fitting}
+use Rattle.rules.specs.Refusals.{◌unless◌, parcel_write_refusal, first_fitting}
 use Rattle.plane.specs.Slices.{slice}
 use Rattle.layer_lent.specs.declared.Shape.{Shape}
 use Rattle.layer_lent.specs.Lent.{Numbers}
 use Rattle.layer_refuse.proofs.Accepted.{accepted}
 use Rattle.parcel_write.specs.Write.{write_by, Fitting}
-
--- the last row, by its test
-pub last : (right : Bool) (r : Result Unit Refusal) → MatchResult r (λ _. right ≡ true) (λ e. (right ≡ false) × (e ≡ Length)) → numbered r ≡ first_fitting ((4 unless right) ∷ [])
-unfolding first_fitting
-last right (Ok u) h = rw h
-last right (Err e) h = rw (h.0, h.1)
 
 -- it does not fit
 none_other : (right : Bool) → ◌≡◌ {A = ℕ} (cond (not right) 4 0) 0 → right ≡ true
@@ -30,15 +21,9 @@ none_other true e = refl
 none_other false e = absurd (omega arith)
 
 -- a call that no row refuses
-pub fitting : (s : Shape) (numbers : Numbers) (parcel : List ℕ) → s.plane ≡ 0 → 0 ≡ parcel_write_refusal (write_by s (slice numbers) parcel) → Fitting parcel s numbers
+pub fitting : (s : Shape) (numbers : Numbers) (parcel : List ℕ) → s.plane ≡ 0 → 0 ≡ parcel_write_refusal (write_by s (slice numbers) parcel) → Fitting s numbers × (length parcel ≡ parcel_length (s.width, s.height) s.ratio)
 unfolding parcel_write_refusal first_fitting
 fitting s numbers parcel luma e =
     let right = eqb (length parcel) (parcel_length (s.width, s.height) s.ratio) in
     let a = accepted s (slice numbers) [] ((4 unless right) ∷ []) (rw luma (sym e)) in
-    record {
-      formed = a.sound.planned.formed;
-      luma_long = a.sound.luma_long;
-      first_long = a.sound.first_long;
-      second_long = a.sound.second_long;
-      long = eqb-true _ _ (none_other right a.more);
-    }
+    (record { formed = a.sound.planned.formed; luma_long = a.sound.luma_long; first_long = a.sound.first_long; second_long = a.sound.second_long }, eqb-true _ _ (none_other right a.more))

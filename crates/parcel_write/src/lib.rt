@@ -1,10 +1,10 @@
 // The writer of parcels: a layer as six records, one after another.
 #![tactic(auto)]
 
-ghost use Rattle.std.specs.Prelude.{◌≡◌, ◌+◌, ◌*◌, ◌≤◌, eqb, take, drop};
+ghost use Rattle.std.specs.Prelude.{◌≡◌, ◌+◌, ◌*◌, ◌≤◌, eqb, length, take, drop};
 ghost use Rattle.rules.specs.Domain.{parcel_length};
 ghost use Rattle.rules.specs.Refusals.{numbered, parcel_write_refusal};
-ghost use Rattle.rules.specs.Parcel.{run_bytes, layer_records, parcel_of};
+ghost use Rattle.rules.specs.Parcel.{run_bytes, layer_records};
 ghost use Rattle.plane.specs.Slices.{slice};
 ghost use Rattle.table.specs.Put.{Put};
 ghost use Rattle.layer_lent.specs.Lent.{lay};
@@ -36,73 +36,84 @@ pub fn refusal(parcel: &[u8], shape: Shape, numbers: [&[i16]; 3]) -> Result<(), 
     plane::ensure(exact(parcel.len(), shape), Refusal::Length)
 }
 
-// The head, and luma's two records. It answers the place behind them.
-fn put_luma(parcel: &mut [u8], shape: Shape, numbers: [&[i16]; 3]) -> usize
-    requires { Fitting parcel.old shape numbers }
-    ensures behind { result ≡ 24 + 4 * (shape.width * shape.height) }
-    ensures done { Put parcel.old 0 (run_bytes (take 3 (layer_records (lay shape (slice numbers.entry))))) parcel.new }
-{
-    let width = shape.width;
-    let height = shape.height;
-    let pitch = shape.luma_pitch;
-    parcel_put::put_head(parcel, width, height, shape.ratio);
-    let gains = Run {
-        from: 0,
-        pitch,
-        width,
-        rows: height,
-    };
-    let after = parcel_put::put_record(parcel, 12, 2, numbers[0], gains);
-    let offsets = Run {
-        from: height * pitch,
-        pitch,
-        width,
-        rows: height,
-    };
-    parcel_put::put_record(parcel, after, 3, numbers[0], offsets)
+// A layer that no row refuses, lent as numbers.
+#[derive(Clone, Copy)]
+struct Layer<'l> {
+    shape: Shape,
+    numbers: [&'l [i16]; 3],
+    ghost fits: { Fitting shape numbers },
 }
 
-// Chroma's two records and the cells, from a place on.
-fn put_chroma(parcel: &mut [u8], at: usize, shape: Shape, numbers: [&[i16]; 3])
-    requires fitting { Fitting parcel.old shape numbers }
-    requires place { at ≡ 24 + 4 * (shape.width * shape.height) }
-    ensures { Put parcel.old at (run_bytes (drop 3 (layer_records (lay shape (slice numbers.entry))))) parcel.new }
-{
-    let pitch = shape.chroma_pitch;
-    let rows = plane::divided(shape.height, shape.ratio);
-    let chroma = Run {
-        from: 0,
-        pitch,
-        width: plane::divided(shape.width, shape.ratio),
-        rows,
-    };
-    let after = parcel_put::put_record(parcel, at, 4, numbers[1], chroma);
-    let after = parcel_put::put_record(parcel, after, 5, numbers[2], chroma);
-    let cells = Run {
-        from: rows * pitch,
-        pitch,
-        width: table::cells(shape.width),
-        rows: table::cells(shape.height),
-    };
-    parcel_put::put_record(parcel, after, 6, numbers[2], cells);
-}
+impl Layer<'_> {
+    // The head, and luma's two records. It answers the place behind them.
+    fn put_luma(self, parcel: &mut [u8]) -> usize
+        requires { length parcel.old ≡ parcel_length (self.shape.width, self.shape.height) self.shape.ratio }
+        ensures behind { result ≡ 24 + 4 * (self.entry.shape.width * self.entry.shape.height) }
+        ensures done { Put parcel.old 0 (run_bytes (take 3 (layer_records (lay self.entry.shape (slice self.entry.numbers))))) parcel.new }
+    {
+        let Shape {
+            width,
+            height,
+            ratio,
+            luma_pitch: pitch,
+            ..
+        } = self.shape;
+        parcel_put::put_head(parcel, width, height, ratio);
+        let gains = Run {
+            from: 0,
+            pitch,
+            width,
+            rows: height,
+        };
+        let after = parcel_put::put_record(parcel, 12, 2, self.numbers[0], gains);
+        let offsets = Run {
+            from: height * pitch,
+            ..gains
+        };
+        parcel_put::put_record(parcel, after, 3, self.numbers[0], offsets)
+    }
 
-// The six records.
-fn put_layer(parcel: &mut [u8], shape: Shape, numbers: [&[i16]; 3])
-    requires { Fitting parcel.old shape numbers }
-    ensures { parcel.new ≡ parcel_of (lay shape (slice numbers.entry)) }
-{
-    let at = put_luma(parcel, shape, numbers);
-    put_chroma(parcel, at, shape, numbers);
+    // Chroma's two records and the cells, from a place on.
+    fn put_chroma(self, parcel: &mut [u8], at: usize)
+        requires long { length parcel.old ≡ parcel_length (self.shape.width, self.shape.height) self.shape.ratio }
+        requires place { at ≡ 24 + 4 * (self.shape.width * self.shape.height) }
+        ensures { Put parcel.old at (run_bytes (drop 3 (layer_records (lay self.entry.shape (slice self.entry.numbers))))) parcel.new }
+    {
+        let Shape {
+            width,
+            height,
+            ratio,
+            chroma_pitch: pitch,
+            ..
+        } = self.shape;
+        let rows = plane::divided(height, ratio);
+        let chroma = Run {
+            from: 0,
+            pitch,
+            width: plane::divided(width, ratio),
+            rows,
+        };
+        let after = parcel_put::put_record(parcel, at, 4, self.numbers[1], chroma);
+        let after = parcel_put::put_record(parcel, after, 5, self.numbers[2], chroma);
+        let cells = Run {
+            from: rows * pitch,
+            pitch,
+            width: table::cells(width),
+            rows: table::cells(height),
+        };
+        parcel_put::put_record(parcel, after, 6, self.numbers[2], cells);
+    }
 }
 
 // The parcel, or a refusal: the contract is the equation for both. The layer is lent as numbers.
-#[tactic(auto, using(crate::proofs::Told::fitting))]
+#[tactic(auto, using(crate::proofs::Told::fitting, crate::proofs::Layers::layer_put))]
 pub fn write(parcel: &mut [u8], shape: Shape, numbers: [&[i16]; 3]) -> Result<(), Refusal>
     requires { shape.plane ≡ 0 }
     ensures { WriteTold (write_by shape (slice numbers.entry) parcel.old) parcel.new result }
 {
     refusal(parcel, shape, numbers)?;
-    put_layer(parcel, shape, numbers);
+    let layer = Layer { shape, numbers };
+    let at = layer.put_luma(parcel);
+    layer.put_chroma(parcel, at);
     Ok(())
 }

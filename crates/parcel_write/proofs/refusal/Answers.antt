@@ -1,11 +1,12 @@
 -- What is left of `parcel_write::refusal`: the rows of the layer, the sizes that they leave, and the last row.
 use Rattle.std.proofs.Common.{[], ◌∷◌, refl, sym, ◌∙◌, length, eqb}
 use Rattle.std.proofs.lemmas.Result.{err_from_is_err_and}
+use Rattle.rules.specs.declared.Refusal.TheVariants.{Length}
 use Rattle.rules.specs.Domain.{parcel_length}
 use Rattle.rules.specs.Refusals.{◌unless◌, first_fitting, parcel_write_refusal}
 use Rattle.plane.specs.Slices.{slice}
 use Rattle.layer_refuse.proofs.Accepted.{accepted}
-use Rattle.parcel_write.proofs.Told.{last}
+use Rattle.laws.proofs.Answered.{last_row}
 use Rattle.parcel_write.proofs.refusal.Goals as goal
 
 pub returns-in_err-rows : goal.returns-in_err-rows
@@ -31,4 +32,4 @@ returns c =
     let s = a.shape in
     let right = eqb (length a.parcel.now) (parcel_length (s.width, s.height) s.ratio) in
     let rows = rw c.requires at (c.in_ok-rows.ensures [] ((4 unless right) ∷ []) refl) in
-    last right c.ensure.result (rw c.exact.ensures at c.ensure.ensures) ∙ sym rows
+    last_row Length right c.ensure.result (rw c.exact.ensures at c.ensure.ensures) ∙ sym rows

@@ -5,7 +5,7 @@ use Rattle.rules.specs.declared.Refusal.TheVariants.{Turn}
 use Rattle.rules.specs.Refusals.{◌unless◌, Table}
 use Rattle.rules.specs.Walk.{is_left, is_due}
 use Rattle.calls.specs.Lent.{fit_of}
-use Rattle.walk_state.proofs.Numbers.{last_row}
+use Rattle.laws.proofs.Answered.{last_row}
 use Rattle.walk_layer.proofs.Taken.{by_name}
 use Rattle.walk_layer.proofs.rest.Goals as goal
 

@@ -4,7 +4,7 @@ use Rattle.std.proofs.lemmas.Result.{err_from_is_err_and}
 use Rattle.rules.specs.declared.Refusal.TheVariants.{Turn}
 use Rattle.rules.specs.Refusals.{◌unless◌, Table}
 use Rattle.rules.specs.Walk.{is_turn}
-use Rattle.walk_state.proofs.Numbers.{last_row}
+use Rattle.laws.proofs.Answered.{last_row}
 use Rattle.walk_pair.proofs.Handed.{by_names}
 use Rattle.walk_pair.proofs.tested.Goals as goal
 
