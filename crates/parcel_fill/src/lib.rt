@@ -16,7 +16,8 @@ pub fn fill(output: &mut [i16], at: usize, payload: &[u8])
     }
 }
 
-// So many zeros.
+// So many zeros: the library's `fill`, with the contract by which parts of a slice are joined.
+#[tactic(auto, using(crate::proofs::Rows::cleared))]
 pub fn clear(output: &mut [i16], at: usize, count: usize)
     requires { at + count ≤ length output.old }
     ensures { Put output.old at (zeros count) output.new }
@@ -35,6 +36,7 @@ pub struct Marks {
 }
 
 // A row of a chroma plane with the cells that stand in it, and 0 elsewhere.
+#[tactic(auto, using(crate::proofs::Rows::row_put, crate::proofs::Rows::row_below, table::proofs::Put::put_as))]
 fn fill_row(output: &mut [i16], at: usize, payload: &[u8], marks: Marks, y: usize)
     requires { RowFits output.old at payload.now marks y }
     ensures { Put output.old at (mark_row payload.now marks y) output.new }

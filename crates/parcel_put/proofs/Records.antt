@@ -1,49 +1,48 @@
 -- Records and their rows of numbers, put piece after piece. Assumes nothing.
 use mathlib.Core.Path.{◌≡◌, refl, sym, ap, ◌∙◌}
 use mathlib.Core.List.{List, [], ◌∷◌, ◌++◌}
-use Prim.Native.Nat.{ℕ, zero, suc, ◌+◌, ◌*◌, ◌/◌, ◌%◌, ◌≤◌, ◌<◌}
-use native.Mathlib.Nat.{add-mul, one-mul, suc-mul, mul_comm, mul-le-mul_left, mul-le-mul_right}
+use Prim.Native.Nat.{ℕ, zero, suc, ◌+◌, ◌*◌, ◌/◌, ◌%◌, ◌^◌, ◌≤◌, ◌<◌}
+use native.Mathlib.Nat.{pow-suc, add-mul, one-mul, suc-mul, mul_comm, mul-le-mul_left, mul-le-mul_right}
 use native.Mathlib.Numerals.{add-one}
 use native.Mathlib.Omega.{arith}
 use lib.Arith.{digits_div, digits_mod}
 use lib.IntN.{ℤ}
-use lib.ListN.{length, set, length-append}
+use lib.ListN.{length, take, length-append}
+use Rattle.std.specs.Int.{w64, byte_at, bytes_low_first, to_le_bytes}
+use Rattle.std.proofs.Math.Nat.{div-div-eq-div-mul}
 use Rattle.rules.specs.Forms.{tabulate}
 use Rattle.rules.specs.Parcel.{in_bytes, bits, written, record_bytes, head_bytes}
 use Rattle.laws.proofs.Bytes.{length-in_bytes, written-append, written_last}
 use Rattle.laws.proofs.Lists.{table_same, tabulate-add, tabulate_last}
 use Rattle.laws.proofs.Parcels.{length_head, length_table, length_rows}
 use Rattle.table.specs.Put.{Put}
-use Rattle.table.proofs.Put.{put_none, put_more, put_join, put_as}
+use Rattle.table.proofs.Put.{put_none, put_join, put_as}
 use Rattle.parcel_put.specs.declared.Run.{Run}
-use Rattle.parcel_put.specs.Runs.{behind, row_of, entry_of, first_of, run_of, RunFits}
+use Rattle.parcel_put.specs.Runs.{row_of, entry_of, first_of, run_of, RunFits}
 
 -- ---- the lowest bytes of a number
 
--- a byte more
-pub behind_more : (k n : ℕ) → behind k n / 256 ≡ behind (k + 1) n
-behind_more k n = rw (add-one k) (go k n)
-  where
-    go : (k n : ℕ) → behind k n / 256 ≡ behind (suc k) n
-    go zero n = refl
-    go (suc k) n = go k (n / 256)
+byte_is : (i n : ℕ) → byte_at i n ≡ n / 256 ^ i % 256
+byte_is zero n = let e : n / 1 ≡ n = omega arith in rw e
+byte_is (suc i) n = refl
 
-in_bytes_more : (k n : ℕ) → in_bytes k n ++ behind k n % 256 ∷ [] ≡ in_bytes (k + 1) n
+bytes_from : (i k n : ℕ) → bytes_low_first i k n ≡ in_bytes k (n / 256 ^ i)
 unfolding in_bytes
-in_bytes_more k n = rw (add-one k) (go k n)
-  where
-    go : (k n : ℕ) → in_bytes k n ++ behind k n % 256 ∷ [] ≡ in_bytes (suc k) n
-    go zero n = refl
-    go (suc k) n = ap (λ (l : List ℕ). n % 256 ∷ l) (go k (n / 256))
+bytes_from i zero n = refl
+bytes_from i (suc k) n =
+    let next : n / 256 ^ suc i ≡ n / 256 ^ i / 256 = rw (pow-suc 256 i) (sym (div-div-eq-div-mul n (256 ^ i) 256)) in
+    rw (byte_is i n, bytes_from (suc i) k n, next)
 
-pub bytes_none : (l : List ℕ) (at n : ℕ) → Put l at (in_bytes 0 n) l
-unfolding in_bytes
-bytes_none l at n = put_none l at
+first_bytes : (i k m n : ℕ) → k ≤ m → take k (bytes_low_first i m n) ≡ bytes_low_first i k n
+first_bytes i zero m n h = refl
+first_bytes i (suc k) zero n h = absurd (omega arith)
+first_bytes i (suc k) (suc m) n h = ap (λ (l : List ℕ). byte_at i n ∷ l) (first_bytes (suc i) k m n (omega arith))
 
-pub bytes_more : {before now after : List ℕ} {at : ℕ} (k n : ℕ) → Put before at (in_bytes k n) now → at + k < length now → after ≡ set now (at + k) (behind k n % 256)
-    → Put before at (in_bytes (k + 1) n) after
-bytes_more {at = at} k n done inside e =
-    put_as (put_more (behind k n % 256) done (ap (λ (j : ℕ). at + j) (sym (length-in_bytes k n))) inside e) (in_bytes_more k n)
+-- as the library has them
+pub low_bytes : (k n : ℕ) → k ≤ 8 → take k (to_le_bytes w64 n) ≡ in_bytes k n
+low_bytes k n h =
+    let whole : n / 1 ≡ n = omega arith in
+    first_bytes 0 k 8 n h ∙ rw whole at (bytes_from 0 k n)
 
 -- such a number behind a piece
 then_two : {before now after piece : List ℕ} {at next : ℕ} (size n : ℕ) → Put before at piece now → length piece ≡ size → next ≡ at + size

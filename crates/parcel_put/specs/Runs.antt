@@ -1,13 +1,8 @@
--- A number behind its lowest bytes, and rows of numbers as they lie in a slice.
-use Rattle.std.specs.Prelude.{List, ℕ, zero, suc, ◌+◌, ◌*◌, ◌/◌, ◌%◌, ◌≤◌, ℤ, pos, length, get_or}
+-- Rows of numbers as they lie in a slice.
+use Rattle.std.specs.Prelude.{List, ℕ, ◌+◌, ◌*◌, ◌/◌, ◌%◌, ◌≤◌, ℤ, pos, length, get_or}
 use Rattle.rules.specs.Forms.{tabulate}
 use Rattle.rules.specs.Parcel.{row_by_row}
 use Rattle.parcel_put.specs.declared.Run.{Run}
-
--- what is left of a number behind its lowest k bytes
-abbrev pub behind : (k n : ℕ) → ℕ
-behind zero n = n
-behind (suc k) n = behind k (n / 256)
 
 -- so many numbers, from one of them on
 abbrev pub row_of : (numbers : List ℤ) → (from count : ℕ) → List ℤ

@@ -7,18 +7,18 @@ ghost use Rattle.table.specs.Put.{Put};
 ghost use Rattle.parcel_put.specs.Runs.{row_of, run_of, RunFits};
 
 // The lowest N bytes of a number, the lowest first.
+#[tactic(auto, using(table::proofs::Put::put_part, crate::proofs::Records::low_bytes))]
 fn put<const N: usize>(output: &mut [u8], at: usize, n: usize)
-    requires { at + N ≤ length output.old }
+    requires room { at + N ≤ length output.old }
+    requires few { N ≤ 8 }
     ensures { Put output.old at (in_bytes N n) output.new }
 {
-    let mut rest = n;
-    for k in 0..N {
-        output[at + k] = (rest % 256) as u8;
-        rest /= 256;
-    }
+    let end = at + N;
+    output[at..end].copy_from_slice(&n.to_le_bytes()[..N]);
 }
 
 // What a record begins with: its payload's length in four bytes, and its kind in two.
+#[tactic(auto, using(crate::proofs::Records::start_put))]
 fn put_start(output: &mut [u8], at: usize, size: usize, kind: usize)
     requires { at + 6 ≤ length output.old }
     ensures { Put output.old at (in_bytes 4 size ++ in_bytes 2 kind) output.new }
@@ -71,6 +71,7 @@ fn put_rows(output: &mut [u8], at: usize, numbers: &[i16], run: Run)
 }
 
 // A record of a run of numbers. It answers the place behind it.
+#[tactic(auto, using(crate::proofs::Records::run_put))]
 pub fn put_record(output: &mut [u8], at: usize, kind: usize, numbers: &[i16], run: Run) -> usize
     requires { RunFits output.old (at + 6) numbers.now run }
     ensures behind { result ≡ at + 6 + 2 * (run.width * run.rows) }

@@ -46,6 +46,7 @@ struct Layer<'l> {
 
 impl Layer<'_> {
     // The head, and luma's two records. It answers the place behind them.
+    #[tactic(auto, using(crate::proofs::Layers::luma_put))]
     fn put_luma(self, parcel: &mut [u8]) -> usize
         requires { length parcel.old ≡ parcel_length (self.shape.width, self.shape.height) self.shape.ratio }
         ensures behind { result ≡ 24 + 4 * (self.entry.shape.width * self.entry.shape.height) }
@@ -74,6 +75,7 @@ impl Layer<'_> {
     }
 
     // Chroma's two records and the cells, from a place on.
+    #[tactic(auto, using(crate::proofs::Layers::chroma_put))]
     fn put_chroma(self, parcel: &mut [u8], at: usize)
         requires long { length parcel.old ≡ parcel_length (self.shape.width, self.shape.height) self.shape.ratio }
         requires place { at ≡ 24 + 4 * (self.shape.width * self.shape.height) }

@@ -1,7 +1,6 @@
--- What is left of `parcel_write::Layer::put_chroma`: the cells lie within their slice, and the three records are put.
+-- What is left of `parcel_write::Layer::put_chroma`: the cells lie within their slice.
 use Rattle.std.proofs.Common.{◌∙◌, arith}
 use Rattle.parcel_write.proofs.Fits.{cells_fit}
-use Rattle.parcel_write.proofs.Layers.{chroma_put}
 use Rattle.parcel_write.proofs.Layer.put_chroma.Goals as goal
 
 pub put_record-requires : goal.put_record-requires
@@ -13,10 +12,3 @@ put_record-requires c =
     let layer = c.args.self in
     cells_fit layer.shape layer.numbers layer.fits _ _ c.divided.ensures c.divided-rows.ensures _ (same ∙ c.requires.long) _ _ _
     (omega arith) c.cells.ensures c.cells-2.ensures
-
-pub returns : goal.returns
-returns c =
-    let one = c.put_record-after.ensures in
-    let two = c.put_record-after-2.ensures in
-    chroma_put c.args.self.shape c.args.self.numbers _ _ _ _ c.divided.ensures c.divided-rows.ensures c.cells.ensures c.cells-2.ensures _ _
-    one.done one.behind two.done two.behind c.put_record.ensures.done
