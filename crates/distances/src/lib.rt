@@ -1,7 +1,7 @@
 // The chessboard distance transform of Rosenfeld and Pfaltz, in two passes over the complete rows.
 #![tactic(auto)]
 
-ghost use Rattle.std.specs.Prelude.{◌≡◌, ◌+◌, ◌-◌, ◌/◌, ◌≤◌, ◌<◌, min, length};
+ghost use Rattle.std.specs.Prelude.{◌≡◌, ◌+◌, ◌-◌, ◌/◌, ◌<◌, min, length};
 ghost use Rattle.rules.specs.Distances.{whole};
 ghost use Rattle.distances.specs.Call.{DistancesAnswered};
 ghost use Rattle.distances.specs.Pass.{Inside, lowest_of, Rows, Passed, Down, Back};

@@ -2,7 +2,7 @@
 // the answer becomes the bit above it.
 #![tactic(auto)]
 
-ghost use Rattle.std.specs.Prelude.{◌≡◌, Bool, ◌&&◌, cond, ℕ, ◌+◌, ◌-◌, ◌*◌, ◌%◌, ◌≤◌, ◌<◌, eqb};
+ghost use Rattle.std.specs.Prelude.{◌≡◌, Bool, ◌&&◌, ℕ, ◌+◌, ◌-◌, ◌*◌, ◌%◌, ◌≤◌, ◌<◌, eqb};
 ghost use Rattle.still_pass.specs.Pass.{PlaneIn};
 ghost use Rattle.still_corner.specs.Corner.{is_odd, column_of, mark_of, Holds, RowMarked, RowsMarked, ColumnIn};
 
