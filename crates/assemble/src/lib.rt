@@ -10,7 +10,9 @@ use assemble_offsets::Sizes;
 use rules::Refusal;
 
 // Chroma's width and height with luma's.
-// Kept: sizes_of takes any numbers, so what makes them right is asked where it is needed and is no field of Sizes.
+// Kept: (d) the definition of sizes_of, by which the proofs of both calls go, makes sizes of any numbers. With what
+// makes them right as a ghost field of Sizes, it and this function would be handed the proof, in place of Formed in two
+// contracts.
 pub fn sizes_of(width: usize, height: usize, ratio: usize) -> Sizes
     ensures { result ≡ sizes_of width height ratio }
 {

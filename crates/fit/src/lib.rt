@@ -12,13 +12,14 @@ ghost use Rattle.fit.specs.Call.{Asks, Modelled, FitAnswered};
 
 use assemble_offsets::Sizes;
 use fit_refuse::Numbers;
+use fit_rough::Search;
 use fit_total::Plane;
 use fit_trial::Settings;
 use fit_window::Lent;
 use rules::Refusal;
 
 // The models and the cover: searched, kept, and with distances.
-// Kept: nine slices in the order of the exported call, as the contracts of the evidence name them.
+// Kept: (a) nine slices in the order of the exported call, as the contracts of the evidence name them.
 fn fitted(
     models: &mut [f32],
     kept: &mut [u8],
@@ -53,14 +54,19 @@ fn fitted(
         limit: settings.limit * settings.limit,
         ..settings
     };
-    fit_rough::fit_rows(models, kept, &lent, sizes, squared);
+    let search = Search {
+        lent,
+        sizes,
+        settings: squared,
+    };
+    search.rows(models, kept);
     fit_keep::keep(models, kept, cover, sizes.width, sizes.height);
     // some cell lies along each side: the distances are not refused
     let _ = distances::distances(cover, table::cells(sizes.width));
 }
 
 // Fits what is not refused.
-// Kept: nine slices in the order of the exported call, as the contracts of the evidence name them.
+// Kept: (a) nine slices in the order of the exported call, as the contracts of the evidence name them.
 pub fn made(
     models: &mut [f32],
     kept: &mut [u8],
@@ -83,7 +89,7 @@ pub fn made(
 }
 
 // Fits, or refuses: the contract is the equation for both.
-// Kept: nine slices in the order of the exported call, as the contracts of the evidence name them.
+// Kept: (a) nine slices in the order of the exported call, as the contracts of the evidence name them.
 pub fn fit(
     models: &mut [f32],
     kept: &mut [u8],

@@ -6,10 +6,10 @@ ghost use Rattle.rules.specs.Forms.{turns, scan_row, scan};
 ghost use Rattle.rules.specs.Assembly.{model_slice};
 ghost use Rattle.fit_keep.specs.Pass.{marked, step_at, reset_step, Work, Sound, Flagged, Kept};
 
-use fit_near::{Rough, Verdict};
+use fit_near::{Pixel, Rough, Verdict};
 
 // What a verdict does to the kept byte of pixel `at` and to its cell.
-// Kept: the kept byte is C's, one of its work slices: 0 nothing was found, 1 it is kept, 2 it is not.
+// Kept: (a) the kept byte is one of the work slices of the C interface: 0 nothing was found, 1 it is kept, 2 it is not.
 fn mark(kept: &mut [u8], cover: &mut [u8], at: usize, cell: usize, verdict: Verdict)
     requires pixel { at < length kept.old }
     requires cell { cell < length cover.old }
@@ -30,50 +30,48 @@ fn mark(kept: &mut [u8], cover: &mut [u8], at: usize, cell: usize, verdict: Verd
 }
 
 // A pixel: nothing where nothing was found.
-fn keep_pixel(kept: &mut [u8], cover: &mut [u8], rough: &Rough, x: usize, y: usize)
-    requires work { Work kept.old cover.old rough.now.width rough.now.height }
-    requires left { x < rough.now.width }
-    requires above { y < rough.now.height }
-    ensures { (kept.new, cover.new)
-        ≡ step_at (model_slice rough.now.models.now (rough.now.width * rough.now.height)) (rough.now.width, rough.now.height) x y
-        (kept.old, cover.old) }
+// Kept: (a) outputs are single slices that come first (docs/DECISIONS.md, 26), so what is asked of them is a clause of
+// each function that writes them, and no field.
+fn keep_pixel(kept: &mut [u8], cover: &mut [u8], pixel: Pixel)
+    requires { Work kept.old cover.old pixel.rough.width pixel.rough.height }
+    ensures { let r = pixel.entry.rough in (kept.new, cover.new)
+        ≡ step_at (model_slice r.models.now (r.width * r.height)) (r.width, r.height) pixel.entry.x pixel.entry.y (kept.old, cover.old) }
 {
-    let at = plane::place(y, rough.width, x);
+    let width = pixel.rough.width;
+    let at = plane::place(pixel.y, width, pixel.x);
     if kept[at] == 0 {
         return;
     }
-    let verdict = rough.verdict_at(x, y);
     let cell = plane::place(
-        layer_lookup::cell_of(y, 8),
-        table::cells(rough.width),
-        layer_lookup::cell_of(x, 8),
+        layer_lookup::cell_of(pixel.y, 8),
+        table::cells(width),
+        layer_lookup::cell_of(pixel.x, 8),
     );
-    mark(kept, cover, at, cell, verdict);
+    mark(kept, cover, at, cell, pixel.verdict());
 }
 
 // A row.
 #[tactic(auto, unfolding(rules::specs::Forms::turns, rules::specs::Forms::scan_row), using(table::proofs::Turns::turns_more))]
-fn keep_row(kept: &mut [u8], cover: &mut [u8], rough: &Rough, y: usize)
-    requires work { Work kept.old cover.old rough.now.width rough.now.height }
-    requires above { y < rough.now.height }
-    ensures { (kept.new, cover.new)
-        ≡ scan_row
-        (step_at (model_slice rough.now.models.now (rough.now.width * rough.now.height)) (rough.now.width, rough.now.height)) y
-        rough.now.width (kept.old, cover.old) }
+fn keep_row(kept: &mut [u8], cover: &mut [u8], rough: Rough, y: usize)
+    requires work { Work kept.old cover.old rough.width rough.height }
+    requires above { y < rough.height }
+    ensures { let r = rough.entry in (kept.new, cover.new)
+        ≡ scan_row (step_at (model_slice r.models.now (r.width * r.height)) (r.width, r.height)) y r.width (kept.old, cover.old) }
 {
     for x in 0..rough.width {
-        keep_pixel(kept, cover, rough, x, y);
+        keep_pixel(kept, cover, Pixel { rough, x, y });
     }
 }
 
 // The rows, one after the other.
+// Kept: (d) a for with one call. A walk that passes share would take the call as a closure, and of what a closure
+// borrows and changes nothing is known after the walk; a trait with an impl for each pass would be longer than its
+// loop.
 #[tactic(auto, unfolding(rules::specs::Forms::turns, rules::specs::Forms::scan), using(table::proofs::Turns::turns_more))]
-fn keep_rows(kept: &mut [u8], cover: &mut [u8], rough: &Rough)
-    requires { Work kept.old cover.old rough.now.width rough.now.height }
-    ensures { (kept.new, cover.new)
-        ≡ scan
-        (step_at (model_slice rough.now.models.now (rough.now.width * rough.now.height)) (rough.now.width, rough.now.height))
-        (rough.now.width, rough.now.height) (kept.old, cover.old) }
+fn keep_rows(kept: &mut [u8], cover: &mut [u8], rough: Rough)
+    requires { Work kept.old cover.old rough.width rough.height }
+    ensures { let r = rough.entry in (kept.new, cover.new)
+        ≡ scan (step_at (model_slice r.models.now (r.width * r.height)) (r.width, r.height)) (r.width, r.height) (kept.old, cover.old) }
 {
     for y in 0..rough.height {
         keep_row(kept, cover, rough, y);
@@ -104,6 +102,6 @@ pub fn keep(models: &mut [f32], kept: &mut [u8], cover: &mut [u8], width: usize,
         width,
         height,
     };
-    keep_rows(kept, cover, &rough);
+    keep_rows(kept, cover, rough);
     reset(models, kept);
 }

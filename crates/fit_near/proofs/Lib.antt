@@ -1,1 +1,1 @@
-pub mod Pixel
+pub mod Near

@@ -11,7 +11,8 @@ ghost use Rattle.fit_near.specs.Verdict.{verdict_of};
 use rules::Model;
 
 // What becomes of a pixel.
-// Kept: three outcomes; an Option of whether a cell is marked would say less of what becomes of a pixel.
+// Kept: (d) three outcomes, each by its name; as an Option<bool> they would be None, Some(false) and Some(true), and
+// each place that matches them would have to say what these mean.
 #[derive(Clone, Copy)]
 pub enum Verdict {
     // it is not kept
@@ -52,50 +53,59 @@ fn beside(k: usize, side: usize, size: usize) -> usize
     ensures moved { result ≡ beside_of k side size }
     ensures inside { result < size }
 {
-    (k + side).saturating_sub(1).min(size - 1)
+    match side {
+        0 => k.saturating_sub(1),
+        1 => k,
+        _ => (k + 1).min(size - 1),
+    }
 }
 
-impl Rough<'_> {
-    // Whether neighbour `side` of a pixel, of 0 to 8, is set.
-    fn is_set(&self, x: usize, y: usize, side: usize) -> bool
-        requires left { x < self.now.width }
-        requires above { y < self.now.height }
-        requires nine { side < 9 }
-        ensures { result
-            ≡ set (model_of (model_slice self.now.models.now (self.now.width * self.now.height))
-            (beside_of y (side / 3) self.now.height * self.now.width + beside_of x (side % 3) self.now.width)) }
+// A pixel of a plane of rough models.
+#[derive(Clone, Copy)]
+pub struct Pixel<'r> {
+    pub rough: Rough<'r>,
+    pub x: usize,
+    pub y: usize,
+    pub ghost left: { x < rough.width },
+    pub ghost above: { y < rough.height },
+}
+
+impl Pixel<'_> {
+    // Whether neighbour `side` of the pixel, of 0 to 8, is set.
+    fn is_set(self, side: usize) -> bool
+        requires { side < 9 }
+        ensures { let r = self.entry.rough in result
+            ≡ set (model_of (model_slice r.models.now (r.width * r.height))
+            (beside_of self.entry.y (side / 3) r.height * r.width + beside_of self.entry.x (side % 3) r.width)) }
     {
-        let row = beside(y, side / 3, self.height);
-        let column = beside(x, side % 3, self.width);
-        fit_model::set(model_at(self.models, plane::place(row, self.width, column)))
+        let rough = self.rough;
+        let row = beside(self.y, side / 3, rough.height);
+        let column = beside(self.x, side % 3, rough.width);
+        fit_model::set(model_at(rough.models, plane::place(row, rough.width, column)))
     }
 
-    // How many of a pixel's nine neighbours are set.
-    #[tactic(auto, unfolding(rules::specs::Forms::turns, rules::specs::Forms::how_many, rules::specs::Keeping::near, crate::specs::Verdict::near_below), using(crate::proofs::Pixel::one_more))]
-    fn near(&self, x: usize, y: usize) -> usize
-        requires left { x < self.now.width }
-        requires above { y < self.now.height }
-        ensures { result
-            ≡ near_of (model_slice self.now.models.now (self.now.width * self.now.height)) (self.now.width, self.now.height) x y }
+    // How many of its nine neighbours are set.
+    #[tactic(auto, unfolding(rules::specs::Forms::turns, rules::specs::Forms::how_many, rules::specs::Keeping::near, crate::specs::Verdict::near_below), using(crate::proofs::Near::one_more))]
+    fn near(self) -> usize
+        ensures { let r = self.entry.rough in result
+            ≡ near_of (model_slice r.models.now (r.width * r.height)) (r.width, r.height) self.entry.x self.entry.y }
     {
         let mut count = 0;
         for side in 0..9 {
-            count += usize::from(self.is_set(x, y, side));
+            count += usize::from(self.is_set(side));
         }
         count
     }
 
-    // What becomes of a pixel.
-    pub fn verdict_at(&self, x: usize, y: usize) -> Verdict
-        requires left { x < self.now.width }
-        requires above { y < self.now.height }
-        ensures { result
-            ≡ verdict_of (model_slice self.now.models.now (self.now.width * self.now.height)) (self.now.width, self.now.height)
-            (y * self.now.width + x) }
+    // What becomes of it.
+    pub fn verdict(self) -> Verdict
+        ensures { let r = self.entry.rough in result
+            ≡ verdict_of (model_slice r.models.now (r.width * r.height)) (r.width, r.height) (self.entry.y * r.width + self.entry.x) }
     {
-        let model = model_at(self.models, plane::place(y, self.width, x));
+        let rough = self.rough;
+        let model = model_at(rough.models, plane::place(self.y, rough.width, self.x));
         if fit_model::set(model) {
-            if 3 <= self.near(x, y) {
+            if 3 <= self.near() {
                 Verdict::Marked
             } else {
                 Verdict::Dropped

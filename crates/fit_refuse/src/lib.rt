@@ -110,7 +110,7 @@ pub fn works(
 }
 
 // The tests of fit, in the order of the table.
-// Kept: nine slices in the order of the exported call, as the contracts of the evidence name them.
+// Kept: (a) nine slices in the order of the exported call, as the contracts of the evidence name them.
 #[tactic(auto, unfolding(rules::specs::Refusals::fit_refusal, rules::specs::Refusals::first_fitting))]
 pub fn tested(
     models: &[f32],

@@ -7,9 +7,8 @@ use Rattle.rules.specs.Model.{Fitted, unfitted}
 use Rattle.rules.specs.Window.{window, chroma_at, fitted}
 use Rattle.rules.specs.Assembly.{model_slice}
 use Rattle.fit_trial.specs.declared.Settings.{Settings}
-use Rattle.fit_window.specs.declared.Lent.{Lent}
 use Rattle.assemble_offsets.specs.declared.Sizes.{Sizes}
-use Rattle.assemble_offsets.specs.Sizes.{Formed, ModelsLong}
+use Rattle.assemble_offsets.specs.Sizes.{ModelsLong}
 use Rattle.table.specs.Models.{model_put}
 use Rattle.fit_keep.specs.Pass.{Flagged}
 
@@ -38,11 +37,8 @@ search parts g s at = found_put parts g at (window parts at s.limit s.evidence s
 abbrev pub search_at : Parts → Sizes → Settings → (x y : ℕ) → List Float × List ℕ → List Float × List ℕ
 search_at parts g s x y = search parts g s (y * g.width + x)
 
--- parts and work slices that are not refused
-pub record Searching (l : Lent) (g : Sizes) (models : List Float) (kept : List ℕ) : Type 0 where
-  pub formed : Formed g
-  pub own_long : length l.luma.own.now ≡ 6 * (g.width * g.height)
-  pub chroma_long : length l.chroma1.own.now ≡ 2 * (g.chroma_width * g.chroma_height)
+-- work slices of these sizes
+pub record Outputs (g : Sizes) (models : List Float) (kept : List ℕ) : Type 0 where
   pub models_long : ModelsLong models g
   pub kept_long : length kept ≡ g.width * g.height
 

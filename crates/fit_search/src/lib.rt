@@ -23,7 +23,7 @@ fn strictly_set(sums: Sums, pairs: usize, samples: f32, limit: f32) -> bool
 // Whether that of a neighbour is.
 fn near(window: &Window, limit: f32) -> bool
     ensures { result
-        ≡ (strictly_set 0 limit (luma_part (listed window.now.previous) window.now.counts.previous) || strictly_set 0 limit (luma_part (listed window.now.next) window.now.counts.next)) }
+        ≡ (strictly_set 0 limit (luma_part (listed window.now.previous) window.now.counts.now.previous) || strictly_set 0 limit (luma_part (listed window.now.next) window.now.counts.now.next)) }
 {
     let counts = window.counts;
     strictly_set(window.previous, counts.previous, counts.before, limit)

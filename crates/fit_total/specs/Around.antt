@@ -23,7 +23,7 @@ plane_parts p c = luma_parts p.previous.now p.own.now p.next.now c
 
 -- the parts of one pixel
 abbrev pub around : Window → Parts
-around w = luma_parts (listed w.previous) (listed w.own) (listed w.next) w.counts
+around w = luma_parts (listed w.previous) (listed w.own) (listed w.next) w.counts.now
 
 -- which neighbours a trial adds
 abbrev pub added_of : Counts → Trial → Added

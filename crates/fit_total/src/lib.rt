@@ -34,13 +34,13 @@ pub struct Added {
     pub after: bool,
 }
 
-// The sums of a pixel in the previous, own and next part, and the counts of these.
+// The sums of a pixel in the previous, own and next part, and the counts of these, which all pixels share.
 #[derive(Clone, Copy)]
-pub struct Window {
+pub struct Window<'w> {
     pub previous: Sums,
     pub own: Sums,
     pub next: Sums,
-    pub counts: Counts,
+    pub counts: &'w Counts,
 }
 
 // A plane's sums in the previous, own and next part.
@@ -158,7 +158,7 @@ impl Counts {
     }
 }
 
-impl Window {
+impl Window<'_> {
     ghost use Rattle.fit_total.specs.Around.{around, totals_of};
 
     // The six totals of a trial.

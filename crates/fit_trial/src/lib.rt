@@ -20,7 +20,8 @@ pub struct Settings {
 }
 
 // The models of the three trials.
-// Kept: three fields by the names of the trials; an array of three would name them by numbers.
+// Kept: (d) three fields by the names of the trials; an array of three would name them by numbers, and each place that
+// reads a trial's model would have to make a number of the trial.
 #[derive(Clone, Copy)]
 pub struct Trials {
     pub all: Model,
@@ -48,7 +49,9 @@ fn trust(spread: Spread, line: Model, settings: Settings) -> f32
     )
 }
 
-// `model` for each trial, step by step side by side: three calls of it would be slower.
+// `model` for each trial, step by step side by side.
+// Kept: (b) three calls of `model`, one for each trial, are not drawn in: fit of 64 by 64 pixels with an evidence
+// figure of 0 takes twice the time so.
 #[tactic(auto, unfolding(rules::specs::Model::model, rules::specs::Window::tried))]
 fn models(window: &Window, settings: Settings) -> Trials
     ensures { Modelled (around window.now) settings.limit settings.strict result }

@@ -15,7 +15,7 @@ use Rattle.rules.specs.Window.{count, present, has_previous, has_next, sum, tota
 use Rattle.calls.specs.Lent.{listed}
 use Rattle.fit_total.specs.declared.Counts.{Counts}
 use Rattle.fit_total.specs.Counted.{luma_part}
-use Rattle.fit_total.specs.Around.{around, total_of}
+use Rattle.fit_total.specs.Around.{luma_parts, total_of}
 use Rattle.fit_total.specs.Alike.{entry_of}
 use Rattle.fit_total.proofs.Held.{held}
 use Rattle.fit_window.specs.declared.Lent.{Lent}
@@ -53,7 +53,7 @@ module _ (l : Lent) (at : ℕ) where
   next = l.luma.next.now
 
   abbrev one : Parts
-  one = around (record { previous = sums_of c.previous previous at; own = sums_at own at; next = sums_of c.next next at; counts = c })
+  one = luma_parts (listed (sums_of c.previous previous at)) (listed (sums_at own at)) (listed (sums_of c.next next at)) c
 
   one_total : (t : Trial) (k : ℕ)
       → total_of (has_previous t && present whole.previous) (has_next t && present whole.next) (entry_of c.previous previous (at * 6 + k)) (get_or own (at * 6 + k) nan)

@@ -102,7 +102,7 @@ impl Lent<'_> {
         if !self.shown(at, settings.evidence) {
             return Found::Nothing;
         }
-        let counts = self.counts;
+        let counts = &self.counts;
         let sums = fit_total::Window {
             previous: sums_of(self.luma.previous, at, counts.previous),
             own: sums_at(self.luma.own, at),

@@ -10,6 +10,7 @@ ghost use Rattle.still_pass.specs.Pass.{Passed};
 use rules::Refusal;
 use still_cells::Numbers;
 use still_pixel::Apply;
+use still_rows::Job;
 
 // The tests of apply, in the order of the table.
 #[tactic(auto, unfolding(rules::specs::Refusals::apply_refusal, rules::specs::Refusals::first_fitting, rules::specs::Forms::each))]
@@ -48,7 +49,12 @@ pub fn apply(
         Passed (apply_refusal c) (apply_leaves c) output.new result }
 {
     tested(output, frames, mask, numbers)?;
-    let steps = still_cells::steps_of(mask, numbers);
-    still_steps::pass(output, *frames, mask, numbers, steps);
+    let job = Job {
+        work: *frames,
+        mask,
+        numbers,
+        steps: still_cells::steps_of(mask, numbers),
+    };
+    still_steps::pass(output, job);
     Ok(())
 }

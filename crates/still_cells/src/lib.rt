@@ -35,10 +35,27 @@ pub trait Cells: Copy {
         ensures { result ≡ down self };
 }
 
+// Any numbers.
 #[derive(Clone, Copy)]
 pub struct Steps {
     pub across: usize,
     pub down: usize,
+}
+
+impl Cells for Steps {
+    ghost across = { λ s. s.across };
+
+    ghost down = { λ s. s.down };
+
+    const SKIPS: bool = true;
+
+    fn across(self) -> usize {
+        self.across
+    }
+
+    fn down(self) -> usize {
+        self.down
+    }
 }
 
 // A constant across, and any number down.

@@ -2,7 +2,7 @@
 // the answer becomes the bit above it.
 #![tactic(auto)]
 
-ghost use Rattle.std.specs.Prelude.{◌≡◌, Bool, ◌&&◌, cond, ℕ, ◌+◌, ◌-◌, ◌*◌, ◌%◌, ◌≤◌, ◌<◌, eqb};
+ghost use Rattle.std.specs.Prelude.{◌≡◌, Bool, ◌&&◌, ℕ, ◌+◌, ◌-◌, ◌*◌, ◌%◌, ◌≤◌, ◌<◌, eqb};
 ghost use Rattle.still_pass.specs.Pass.{PlaneIn};
 ghost use Rattle.still_corner.specs.Corner.{is_odd, column_of, mark_of, Holds, RowMarked, RowsMarked, ColumnIn};
 
@@ -80,6 +80,9 @@ fn mark_row(still: &mut [u8], width: usize, height: usize, y: usize)
 }
 
 // The rows, one after the other.
+// Kept: (d) a for with one call. A walk that passes share would take the call as a closure, and of what a closure
+// borrows and changes nothing is known after the walk; a trait with an impl for each pass would be longer than its
+// loop.
 pub fn mark_rows(still: &mut [u8], width: usize, height: usize)
     requires room { PlaneIn still.old width (width, height) }
     requires some { 1 ≤ width }

@@ -10,6 +10,7 @@ ghost use Rattle.still_pass.specs.Pass.{Passed};
 use rules::Refusal;
 use still_cells::Numbers;
 use still_pixel::Hold;
+use still_rows::Job;
 
 // The tests of hold, in the order of the table.
 #[tactic(auto, unfolding(rules::specs::Refusals::hold_refusal, rules::specs::Refusals::first_fitting, rules::specs::Forms::each))]
@@ -39,7 +40,12 @@ pub fn hold(output: &mut [u8], held: &[u8], mask: &[u8], numbers: Numbers) -> Re
         Passed (hold_refusal c) (hold_leaves c) output.new result }
 {
     tested(output, held, mask, numbers)?;
-    let steps = still_cells::steps_of(mask, numbers);
-    still_steps::pass(output, Hold { held }, mask, numbers, steps);
+    let job = Job {
+        work: Hold { held },
+        mask,
+        numbers,
+        steps: still_cells::steps_of(mask, numbers),
+    };
+    still_steps::pass(output, job);
     Ok(())
 }

@@ -13,6 +13,8 @@ use rules::Refusal;
 use still_same::{Frames, Settings};
 
 // The bit above the lowest, of bytes of two bits.
+// Kept: (d) a for over iter_mut is the library's own walk; of what a chain over iter_mut changes nothing is known after
+// it.
 fn halve(still: &mut [u8])
     ensures { EachIndex still.new (λ k. slice_index still.new k ≡ slice_index still.old k / 2) }
 {

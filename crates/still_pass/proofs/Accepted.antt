@@ -31,10 +31,6 @@ pixel_in {pitch = pitch} {y = y} {size} p left upper =
     let up : y ≤ size.1 - 1 = omega arith in
     omega (arith, mul-le-mul_right pitch up, p.inside)
 
--- and so does every place
-pub all_in : {bytes : List ℕ} {pitch : ℕ} {size : ℕ × ℕ} → PlaneIn bytes pitch size → (k : ℕ) → k < (size.1 - 1) * pitch + size.0 → k < length bytes
-all_in p k below = omega (arith, p.inside)
-
 -- a list that is as long
 pub plane_as_long : {bytes other : List ℕ} {pitch : ℕ} {size : ℕ × ℕ} → PlaneIn bytes pitch size → length other ≡ length bytes → PlaneIn other pitch size
 plane_as_long p e = record { narrow = p.narrow; low = p.low; apart = p.apart; inside = omega (arith, p.inside) }

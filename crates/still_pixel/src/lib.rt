@@ -1,7 +1,7 @@
 // What hold and apply do to one pixel, by the sum of its mask cells.
 #![tactic(auto)]
 
-ghost use Rattle.std.specs.Prelude.{◌≡◌, Bool, ℕ, cond, ◌*◌, ◌≤◌, ◌<◌, ltb, length, get_or};
+ghost use Rattle.std.specs.Prelude.{◌≡◌, Bool, ℕ, cond, ◌*◌, ◌≤◌, ◌<◌, ltb, min, length, get_or};
 ghost use Rattle.rules.specs.Float.{float, mix, pixel as pixel_of};
 ghost use Rattle.rules.specs.Still.{weighed as weighed_of};
 
@@ -27,8 +27,8 @@ impl Weight {
 // What is done with the pixels of a plane, by the frames that are read: which are written, by their sums, and the byte
 // that then stands there.
 pub trait Work: Copy {
-    // place k lies within the frames
-    ghost reads: { Self → (k : ℕ) → Type 0 };
+    // how many places the frames have
+    ghost places: { Self → ℕ };
 
     ghost writes: { Self → (sum cells : ℕ) → Bool };
 
@@ -37,7 +37,7 @@ pub trait Work: Copy {
     // A pixel that stays is passed over, or, where `skips` is false, reckoned like the others: a row is then a loop
     // without a branch.
     fn pixel(self, k: usize, old: u8, weight: Weight, skips: bool) -> u8
-        requires { reads self k }
+        requires { k < places self }
         ensures { result ≡ cond (writes self weight.sum weight.cells) (byte self k old weight.sum weight.cells) old };
 }
 
@@ -68,7 +68,7 @@ fn weighed(kept: u8, made: u8, sum: u32, full: u32) -> u8
 }
 
 impl Work for Hold<'_> {
-    ghost reads = { λ s k. k < length s.held.now };
+    ghost places = { λ s. length s.held.now };
 
     ghost writes = { λ _ sum cells. ltb sum (255 * cells) };
 
@@ -86,7 +86,7 @@ impl Work for Hold<'_> {
 }
 
 impl Work for Apply<'_> {
-    ghost reads = { λ s k. (k < length s.first.now) × (k < length s.second.now) };
+    ghost places = { λ s. min (length s.first.now) (length s.second.now) };
 
     ghost writes = { λ _ sum cells. ltb (4 * cells) (10 * sum) };
 

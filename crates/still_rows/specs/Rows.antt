@@ -1,5 +1,5 @@
--- The rule of a work by the steps of a mask, and what a pass asks of its frames.
-use Rattle.std.specs.Prelude.{Bool, List, ℕ, ◌+◌, ◌-◌, ◌*◌, ◌<◌}
+-- The rule of a work by the steps of a mask.
+use Rattle.std.specs.Prelude.{Bool, List, ℕ, ◌+◌, ◌*◌}
 use Rattle.rules.specs.Forms.{Rule}
 use Rattle.still_cells.specs.declared.Numbers.{Numbers}
 use Rattle.still_cells.specs.Cells.{sum_of}
@@ -12,7 +12,3 @@ ruled writes byte mask n across down =
       writes = λ x y. writes (sum x y) (across * down);
       byte = λ x y old. byte (y * n.pitch + x) old (sum x y) (across * down);
     }
-
--- the frames hold every place of a plane
-abbrev pub Reads : (reads : ℕ → Type 0) → Numbers → Type 0
-Reads reads n = (k : ℕ) → k < (n.height - 1) * n.pitch + n.width → reads k

@@ -103,6 +103,9 @@ fn same_row(still: &mut [u8], frames: Frames, settings: Settings, y: usize)
 }
 
 // The rows, one after the other.
+// Kept: (d) a for with one call. A walk that passes share would take the call as a closure, and of what a closure
+// borrows and changes nothing is known after the walk; a trait with an impl for each pass would be longer than its
+// loop.
 #[tactic(auto, using(still_pass::proofs::Pass::rows_none))]
 pub fn same_rows(still: &mut [u8], frames: Frames, settings: Settings)
     requires { PlaneIn still.old frames.width (frames.width, frames.height) }

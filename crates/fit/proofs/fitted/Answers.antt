@@ -7,4 +7,4 @@ returns c =
     let a = c.args in
     let n = c.counts_of.ensures in
     modelled a.sums a.pairs c.counts_of.result n.before n.here n.after _ _ _ _ c.requires a.settings _ _ _ _ _ _
-    _ (lent_is a.sums a.pairs c.counts_of.result n.before n.here n.after) c.fit_rows.ensures c.keep.ensures (rw c.cells.ensures at c.distances.ensures)
+    _ (lent_is a.sums a.pairs c.counts_of.result n.before n.here n.after) c.rows.ensures c.keep.ensures (rw c.cells.ensures at c.distances.ensures)

@@ -10,8 +10,8 @@ returns-then-kept-at-eq0 c = step_none _ _ _ _ (rw c.place-at.ensures at c.if-ke
 
 pub returns : goal.returns
 returns c =
-    let a = c.args in
-    let w = a.rough.now.width in
-    let here : c.place-cell.result ≡ a.y / 8 * cells w + a.x / 8 = c.place-cell.ensures ∙ rw (c.cell_of-2.ensures, c.cells.ensures, c.cell_of.ensures) in
+    let p = c.args.pixel in
+    let w = p.rough.width in
+    let here : c.place-cell.result ≡ p.y / 8 * cells w + p.x / 8 = c.place-cell.ensures ∙ rw (c.cell_of-2.ensures, c.cells.ensures, c.cell_of.ensures) in
     let some = rw c.place-at.ensures at c.if-kept-at-eq0.false in
-    c.mark.ensures ∙ rw (c.verdict_at-verdict.ensures, here, ← cell_is w a.x a.y c.requires.left, c.place-at.ensures) (step_some _ _ _ _ some)
+    c.mark.ensures ∙ rw (c.verdict.ensures, here, ← cell_is w p.x p.y p.left, c.place-at.ensures) (step_some _ _ _ _ some)

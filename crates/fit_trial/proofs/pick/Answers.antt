@@ -17,4 +17,4 @@ unfolding pick own_same
 returns c =
     let a = c.args in
     let m = c.models-trials in
-    rw (c.found.ensures, c.best.ensures, best_is (around a.window.now) a.settings.limit a.settings.strict m.result m.ensures, a.window.now.counts.counted.here_is)
+    rw (c.found.ensures, c.best.ensures, best_is (around a.window.now) a.settings.limit a.settings.strict m.result m.ensures, a.window.now.counts.now.counted.here_is)

@@ -1,17 +1,23 @@
 -- What is asked of the pass follows from the tests, and its rule by these steps is apply's.
 use mathlib.Core.Path.{sym}
+use Rattle.std.proofs.Math.Nat.{le-min}
 use Rattle.std.proofs.lemmas.Result.{err_from_is_err_and}
 use Rattle.still_pass.proofs.Pass.{refused, ran, painted_is}
-use Rattle.still_pass.proofs.Accepted.{all_in}
 use Rattle.still_apply.proofs.Runs.{rule_is, runs}
 use Rattle.still_apply.proofs.apply.Goals as goal
+
+pub invariant_of-job : goal.invariant_of-job
+invariant_of-job c =
+    let a = c.args in
+    let f = a.frames.now in
+    let r = runs a.output.now f.first.now f.second.now a.mask.now f.time a.numbers (sym c.in_ok-tested.ensures) in
+    record { cells = rw c.steps_of.ensures r.1; apart = r.2.apart; frames = le-min r.2.inside r.3.inside }
 
 pub pass-requires : goal.pass-requires
 pass-requires c =
     let a = c.args in
     let f = a.frames.now in
-    let r = runs a.output.now f.first.now f.second.now a.mask.now f.time a.numbers (sym c.in_ok-tested.ensures) in
-    rw c.steps_of-steps.ensures (record { room = r.0; cells = r.1; pitch = r.2.apart; frames = λ k h. (all_in r.2 k h, all_in r.3 k h) })
+    (runs a.output.now f.first.now f.second.now a.mask.now f.time a.numbers (sym c.in_ok-tested.ensures)).0
 
 pub returns-in_err-tested : goal.returns-in_err-tested
 returns-in_err-tested c =
@@ -23,4 +29,4 @@ returns c =
     let a = c.args in
     let f = a.frames.now in
     ran _ _ _ _ c.in_ok-tested.ensures
-    (rw (c.steps_of-steps.ensures, ← rule_is a.output.now f.first.now f.second.now a.mask.now f.time a.numbers) at (painted_is _ _ c.pass.ensures))
+    (rw (c.steps_of.ensures, ← rule_is a.output.now f.first.now f.second.now a.mask.now f.time a.numbers) at (painted_is _ _ c.pass.ensures))

@@ -1,8 +1,8 @@
--- What is left to answer of `fit_rough::fit_rows`'s goals.
+-- What is left to answer of `fit_rough::Search::rows`'s goals.
 use native.Mathlib.Nat.{le_antisymm}
 use native.Mathlib.Omega.{arith}
 use Rattle.fit_rough.proofs.Whole.{searched}
-use Rattle.fit_rough.proofs.fit_rows.Goals as goal
+use Rattle.fit_rough.proofs.Search.rows.Goals as goal
 
 pub returns : goal.returns
 returns c =

@@ -4,8 +4,9 @@ use Rattle.std.specs.Prelude.{Float}
 use Rattle.rules.specs.Forms.{scan_row}
 use Rattle.fit_window.specs.Lent.{parts_lent}
 use Rattle.fit_rough.specs.Search.{search_at}
-use Rattle.fit_rough.proofs.fit_row.Given as goal
+use Rattle.fit_rough.proofs.Search.row.Given as goal
 
 abbrev pub invariant-loop-x : goal.invariant-loop-x
 invariant-loop-x l =
-    ◌≡◌ {A = List Float × List ℕ} (l.models, l.kept) (scan_row (search_at (parts_lent l.lent) l.sizes l.settings) l.y l.x (l.initial.models, l.initial.kept))
+    let s = l.self in
+    ◌≡◌ {A = List Float × List ℕ} (l.models, l.kept) (scan_row (search_at (parts_lent s.lent) s.sizes s.settings) l.y l.x (l.initial.models, l.initial.kept))

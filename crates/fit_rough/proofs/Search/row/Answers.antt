@@ -1,9 +1,9 @@
--- What is left to answer of `fit_rough::fit_row`'s goals.
+-- What is left to answer of `fit_rough::Search::row`'s goals.
 use mathlib.Core.Path.{sym, ◌∙◌}
 use Rattle.rules.specs.Forms.{scan_row}
 use Rattle.table.proofs.Turns.{turns_more}
 use Rattle.fit_rough.proofs.Pixels.{none_found, one_found}
-use Rattle.fit_rough.proofs.fit_row.Goals as goal
+use Rattle.fit_rough.proofs.Search.row.Goals as goal
 
 pub loop-x-preserved-in_default : goal.loop-x-preserved-in_default
 unfolding scan_row
