@@ -11,6 +11,7 @@ use evidence_host::Form;
 use layer_lent::Shape;
 use motion::Grid;
 use rules::Sizes;
+use stats_refuse::{Numbers, Pair};
 
 // Distances, made of the marks of cells.
 pub fn distances(cells: &mut [u8], width: usize) -> u64
@@ -84,14 +85,17 @@ pub fn stats<'f, 'm>(
     luma: &mut [f32],
     chroma1: &mut [f32],
     chroma2: &mut [f32],
-    first: [&'f [u8]; 3],
-    second: [&'f [u8]; 3],
-    fields: [&'m [u16]; 4],
-    numbers: stats_refuse::Numbers,
+    pair: Pair<'f, 'm>,
+    numbers: Numbers,
 ) -> u64
     ensures { NotAnswered result }
 {
-    let grid = numbers.grid;
+    let Pair {
+        first,
+        second,
+        fields,
+        grid,
+    } = pair;
     host::safeteal_stats(
         luma,
         chroma1,
@@ -100,18 +104,18 @@ pub fn stats<'f, 'm>(
         numbers.width,
         numbers.height,
         numbers.ratio,
-        first[0],
-        numbers.first[0],
-        first[1],
-        numbers.first[1],
-        first[2],
-        numbers.first[2],
-        second[0],
-        numbers.second[0],
-        second[1],
-        numbers.second[1],
-        second[2],
-        numbers.second[2],
+        first.luma.bytes,
+        first.luma.pitch,
+        first.chroma1.bytes,
+        first.chroma1.pitch,
+        first.chroma2.bytes,
+        first.chroma2.pitch,
+        second.luma.bytes,
+        second.luma.pitch,
+        second.chroma1.bytes,
+        second.chroma1.pitch,
+        second.chroma2.bytes,
+        second.chroma2.pitch,
         fields[0],
         fields[1],
         fields[2],

@@ -32,6 +32,8 @@ use fit_trial::Settings;
 use layer_lent::Shape;
 use motion::Grid;
 use rules::{Sizes, Walk, Walked};
+use sample::View;
+use stats_refuse::{Frame, Pair};
 
 // In the complete rows of the given width each cell becomes the least of 255 and of any cell's old byte plus the
 // steps to it.
@@ -191,19 +193,30 @@ pub fn safeteal_stats<'f, 'm>(
         origin_y,
         pel,
     };
+    let first = Frame {
+        luma: View::new(first0, first0_pitch),
+        chroma1: View::new(first1, first1_pitch),
+        chroma2: View::new(first2, first2_pitch),
+    };
+    let second = Frame {
+        luma: View::new(second0, second0_pitch),
+        chroma1: View::new(second1, second1_pitch),
+        chroma2: View::new(second2, second2_pitch),
+    };
+    let fields = [forward_x, forward_y, backward_x, backward_y];
+    let pair = Pair {
+        first,
+        second,
+        fields,
+        grid,
+    };
     let numbers = stats_refuse::Numbers {
         pairs,
         width,
         height,
         ratio,
-        first: [first0_pitch, first1_pitch, first2_pitch],
-        second: [second0_pitch, second1_pitch, second2_pitch],
-        grid,
     };
-    let fields = [forward_x, forward_y, backward_x, backward_y];
-    let first = [first0, first1, first2];
-    let second = [second0, second1, second2];
-    told::told(stats::stats(luma, chroma1, chroma2, first, second, fields, numbers))
+    told::told(stats::stats(luma, chroma1, chroma2, pair, numbers))
 }
 
 // Stores models and a cover as a layer.
@@ -717,18 +730,26 @@ pub fn safeteal_walk_pair<'f, 'm>(
         origin_y,
         pel,
     };
-    let numbers = walk_pair::Numbers {
-        number,
-        first: [first0_pitch, first1_pitch, first2_pitch],
-        second: [second0_pitch, second1_pitch, second2_pitch],
-        grid,
+    let first = Frame {
+        luma: View::new(first0, first0_pitch),
+        chroma1: View::new(first1, first1_pitch),
+        chroma2: View::new(first2, first2_pitch),
+    };
+    let second = Frame {
+        luma: View::new(second0, second0_pitch),
+        chroma1: View::new(second1, second1_pitch),
+        chroma2: View::new(second2, second2_pitch),
     };
     let fields = [forward_x, forward_y, backward_x, backward_y];
-    let first = [first0, first1, first2];
-    let second = [second0, second1, second2];
+    let pair = Pair {
+        first,
+        second,
+        fields,
+        grid,
+    };
     let done = walk_pair::pair(
         luma0, chroma01, chroma02, luma1, chroma11, chroma12, luma2, chroma21, chroma22, walk,
-        first, second, fields, numbers,
+        pair, number,
     );
     walk_state::told(done, walk)
 }

@@ -1,6 +1,5 @@
 -- What the readers of motion ask and give.
-use Rattle.std.specs.Prelude.{◌≡◌, List, [], ◌∷◌, ℕ, ◌+◌, ◌*◌, ◌≤◌, ◌<◌, nat_abs, length, get_or, Float}
-use Rattle.std.specs.Borrow.{Bor}
+use Rattle.std.specs.Prelude.{◌≡◌, List, [], ℕ, ◌+◌, ◌*◌, ◌≤◌, ◌<◌, nat_abs, length, get_or, Float}
 use Rattle.rules.specs.declared.Taps.{Taps}
 use Rattle.rules.specs.declared.Steps.{Steps}
 use Rattle.rules.specs.Forms.{Motion, area}
@@ -12,10 +11,6 @@ use Rattle.calls.specs.Lent.{motion_by}
 use Rattle.plane.specs.Slices.{Slices, slice}
 use Rattle.motion.specs.declared.Carried.{Carried}
 use Rattle.motion.specs.declared.Grid.{Grid}
-
--- four fields as one array
-abbrev pub fields_of : (forward_x forward_y backward_x backward_y : Bor (List ℕ)) → Slices ℕ
-fields_of forward_x forward_y backward_x backward_y = forward_x ∷ forward_y ∷ backward_x ∷ backward_y ∷ []
 
 -- motion as a function is lent it
 abbrev pub motion_of : (fields : Slices ℕ) → Grid → Motion

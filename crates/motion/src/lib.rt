@@ -6,7 +6,7 @@ ghost use Rattle.rules.specs.Literals.{1·0};
 ghost use Rattle.rules.specs.Float.{signed, float, ◌⊗◌, ◌⊘◌};
 ghost use Rattle.rules.specs.Motion.{taps as taps_of, row_taps, column_taps};
 ghost use Rattle.sample.specs.Points.{Held, Within};
-ghost use Rattle.motion.specs.Moves.{fields_of, motion_of, laid_out, place_of, Covers, Laid, Moves, Rows, entry_of, column_at, columns_of, Holds, Carries, mixed_steps};
+ghost use Rattle.motion.specs.Moves.{motion_of, laid_out, place_of, Covers, Laid, Moves, Rows, entry_of, column_at, columns_of, Holds, Carries, mixed_steps};
 
 use rules::{Steps, Taps};
 
@@ -105,70 +105,6 @@ fn column(field: &[u16], width: usize, height: usize, scale: f32, down: Taps, x:
     (float::mix(above, below, down.share) - 1024.0) * scale
 }
 
-// The column of each field: the first frame takes the backward ones.
-#[tactic(auto, unfolding(crate::specs::Moves::column_at, crate::specs::Moves::columns_of, rules::specs::Motion::column))]
-fn columns(
-    forward_x: &[u16],
-    forward_y: &[u16],
-    backward_x: &[u16],
-    backward_y: &[u16],
-    grid: Grid,
-    ratio: usize,
-    down: Taps,
-    x: usize,
-) -> Steps
-    requires moves { Moves (fields_of forward_x forward_y backward_x backward_y) grid ratio }
-    requires rows { Rows grid.height down }
-    requires within { x < grid.width }
-    ensures { result ≡ columns_of (motion_of (fields_of forward_x.entry forward_y.entry backward_x.entry backward_y.entry) grid) ratio down x }
-{
-    let scale = scale(ratio, grid.pel);
-    Steps {
-        fx: column(backward_x, grid.width, grid.height, scale, down, x),
-        fy: column(backward_y, grid.width, grid.height, scale, down, x),
-        bx: column(forward_x, grid.width, grid.height, scale, down, x),
-        by: column(forward_y, grid.width, grid.height, scale, down, x),
-    }
-}
-
-// The columns around a pixel, read anew.
-// Kept: (b) the fields come singly: as one value they cost stats 1.03 of its time, for it is not compiled into a row
-// then.
-pub fn around(
-    forward_x: &[u16],
-    forward_y: &[u16],
-    backward_x: &[u16],
-    backward_y: &[u16],
-    grid: Grid,
-    ratio: usize,
-    down: Taps,
-    across: Taps,
-) -> Carried
-    requires moves { Moves (fields_of forward_x forward_y backward_x backward_y) grid ratio }
-    requires rows { Rows grid.height down }
-    requires within { across.first < grid.width }
-    ensures { Carries (motion_of (fields_of forward_x.entry forward_y.entry backward_x.entry backward_y.entry) grid) ratio down across result }
-{
-    let after = plane::after(across.first, grid.width);
-    Carried {
-        first: across.first,
-        share: across.share,
-        left: columns(
-            forward_x,
-            forward_y,
-            backward_x,
-            backward_y,
-            grid,
-            ratio,
-            down,
-            across.first,
-        ),
-        right: columns(
-            forward_x, forward_y, backward_x, backward_y, grid, ratio, down, after,
-        ),
-    }
-}
-
 impl Lattice {
     // The two rows of the grid around a pixel row.
     #[tactic(auto, unfolding(rules::specs::Motion::row_taps))]
@@ -182,6 +118,8 @@ impl Lattice {
     }
 
     // A pixel column's place in the grid, held to the entries' middles.
+    // Kept: (d) a column up to 4096 is asked here and below: a caller has it from its plane's width, and a value for
+    // each column would say no more.
     pub fn column_place(self, x: usize) -> f32
         requires { x ≤ 4096 }
         ensures { Held (place_of (laid_out self.grid) self.ratio x) self.grid.width result }
@@ -202,6 +140,45 @@ impl Lattice {
 }
 
 impl Motion<'_> {
+    // The column of each field: the first frame takes the backward ones.
+    // Kept: (d) that the rows lie in the grid is asked here and below, as of an index: they are found once for a row,
+    // and a value for them would borrow the grid besides.
+    #[inline(always)]
+    #[tactic(auto, unfolding(crate::specs::Moves::column_at, crate::specs::Moves::columns_of, rules::specs::Motion::column))]
+    fn columns(self, down: Taps, x: usize) -> Steps
+        requires rows { Rows self.lattice.grid.height down }
+        requires within { x < self.lattice.grid.width }
+        ensures { let lattice = self.entry.lattice in
+            result ≡ columns_of (motion_of self.entry.fields lattice.grid) lattice.ratio down x }
+    {
+        let [forward_x, forward_y, backward_x, backward_y] = self.fields;
+        let Lattice { grid, ratio } = self.lattice;
+        let scale = scale(ratio, grid.pel);
+        Steps {
+            fx: column(backward_x, grid.width, grid.height, scale, down, x),
+            fy: column(backward_y, grid.width, grid.height, scale, down, x),
+            bx: column(forward_x, grid.width, grid.height, scale, down, x),
+            by: column(forward_y, grid.width, grid.height, scale, down, x),
+        }
+    }
+
+    // The columns around a pixel, read anew.
+    #[inline(always)]
+    pub fn around(self, down: Taps, across: Taps) -> Carried
+        requires rows { Rows self.lattice.grid.height down }
+        requires within { across.first < self.lattice.grid.width }
+        ensures { let lattice = self.entry.lattice in
+            Carries (motion_of self.entry.fields lattice.grid) lattice.ratio down across result }
+    {
+        let after = plane::after(across.first, self.lattice.grid.width);
+        Carried {
+            first: across.first,
+            share: across.share,
+            left: self.columns(down, across.first),
+            right: self.columns(down, after),
+        }
+    }
+
     // The columns around a pixel between two: those of the pixel before it, where they are the same.
     pub fn carry_to(self, down: Taps, previous: Carried, across: Taps) -> Carried
         requires rows { Rows self.lattice.grid.height down }
@@ -216,17 +193,7 @@ impl Motion<'_> {
                 ..previous
             };
         }
-        let Motion { fields, lattice } = self;
-        around(
-            fields[0],
-            fields[1],
-            fields[2],
-            fields[3],
-            lattice.grid,
-            lattice.ratio,
-            down,
-            across,
-        )
+        self.around(down, across)
     }
 
     // The same of pixel column x.

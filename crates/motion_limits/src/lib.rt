@@ -10,6 +10,7 @@ use motion::Grid;
 use rules::Refusal;
 
 // From lo to hi.
+// Kept: (d) the body is the library's `contains`; the name is that of the rules' definition, which four rows below use.
 pub fn spans(lo: i32, hi: i32, n: i32) -> bool
     ensures { result ≡ spans_of lo hi n }
 {

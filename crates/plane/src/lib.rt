@@ -65,6 +65,7 @@ pub fn chosen<T: Drop>(yes: bool, new: T, old: T) -> T
 }
 
 // The column or row after k, the last repeated.
+// Kept: (d) that k lies below the size is asked, as of the index of a slice: an index as a value would carry its size.
 pub fn after(k: usize, size: usize) -> usize
     requires { k < size }
     ensures { (result ≡ min (k + 1) (size - 1)) × (result < size) }

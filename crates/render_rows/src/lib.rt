@@ -190,19 +190,10 @@ fn render_row<L: Lent>(
     requires room { RowAsks job.plan output.old y count }
     ensures { RowIn job.entry (L.held layer) frames.entry y count output.old output.new result }
 {
-    let Motion { fields, lattice } = job.motion;
-    let down = lattice.row_taps(y);
-    let across = lattice.column_taps(0);
-    let carried = motion::around(
-        fields[0],
-        fields[1],
-        fields[2],
-        fields[3],
-        lattice.grid,
-        lattice.ratio,
-        down,
-        across,
-    );
+    let motion = job.motion;
+    let down = motion.lattice.row_taps(y);
+    let across = motion.lattice.column_taps(0);
+    let carried = motion.around(down, across);
     let start = Run { count, carried };
     render_cells(output, job, layer, frames, down, start, y)
 }

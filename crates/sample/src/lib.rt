@@ -9,6 +9,23 @@ ghost use Rattle.sample.specs.Points.{positive_of, PlaneFits, Held, Within, arou
 
 use rules::Taps;
 
+// A byte plane that is borrowed, with its pitch.
+#[derive(Clone, Copy)]
+pub struct View<'p> {
+    pub bytes: &'p [u8],
+    pub pitch: usize,
+}
+
+impl<'p> View<'p> {
+    // The view of a slice.
+    pub fn new(bytes: &'p [u8], pitch: usize) -> View<'p>
+        ensures bytes { result.bytes ≡ bytes.entry }
+        ensures pitch { result.pitch ≡ pitch }
+    {
+        View { bytes, pitch }
+    }
+}
+
 // x where it is above 0, and 0 for a NaN too.
 // Kept: (a) the largest of two floats is an own helper.
 fn positive(x: f32) -> f32
@@ -27,6 +44,8 @@ pub fn whole(x: f32) -> u32
 
 // A coordinate held to the plane. Below 0 first: two tests that make no branch.
 // Kept: (a) a float is held by an own helper.
+// Kept: (d) a side of 1 to 4096 is asked here and below, as an index is of a slice: a side as a value would be made
+// anew from a grid's or a plane's number for each point.
 pub fn held(x: f32, size: usize) -> f32
     requires some { 1 ≤ size }
     requires few { size ≤ 4096 }

@@ -1,24 +1,24 @@
 -- A call of stats that is not refused can be run.
 -- Assumes nothing.
 use mathlib.Core.Path.{◌≡◌, refl}
-use mathlib.Core.List.{List, [], ◌∷◌}
+use mathlib.Core.List.{List}
 use mathlib.Core.Bool.{Bool, true, ◌&&◌}
 use Prim.Native.Nat.{ℕ, ◌*◌}
 use native.Mathlib.Omega.{arith}
-use lib.ListN.{length, get_or}
+use lib.ListN.{length}
 use lib.Ieee.{Float}
 use Rattle.rules.specs.Forms.{each, area, shrunk}
 use Rattle.rules.specs.Calls.{StatsCall}
 use Rattle.rules.specs.Domain.{sums_length, chroma_sums_length, is_pitch, is_plane, motion_lengths, motion_numbers}
 use Rattle.rules.specs.Refusals.{stats_refusal}
 use Rattle.laws.proofs.Accepted.{row_right, both, Side, sizes_in, ratio_in, exact_in}
-use Rattle.plane.specs.Slices.{Slices, slice, at}
+use Rattle.sample.specs.declared.View.{View}
+use Rattle.sample.specs.Points.{plane_by, PlaneFits}
 use Rattle.motion.specs.Moves.{Moves}
-use Rattle.stats_gather.specs.Sums.{Gathers}
+use Rattle.stats_refuse.specs.declared.Pair.{Pair}
 use Rattle.stats_refuse.specs.declared.Numbers.{Numbers}
-use Rattle.stats_refuse.specs.Call.{plane_at, stats_by}
+use Rattle.stats_refuse.specs.Call.{stats_by}
 use Rattle.motion_limits.proofs.Accepted.{plane_in, moves_in}
-use Rattle.stats.specs.Answered.{task_of}
 
 -- each of two, or of four
 two : (a b : Bool) → (a && (b && true)) ≡ true → (a ≡ true) × (b ≡ true)
@@ -30,13 +30,9 @@ four a b c d e =
     let u = both b (c && (d && true)) t.1 in
     ((t.0, u.0), two c d u.1)
 
--- plane k of both frames
-abbrev pub onto : (first second : Slices ℕ) → (k : ℕ) → Slices ℕ
-onto first second k = at first k ∷ (at second k ∷ [])
-
-module _ (luma chroma1 chroma2 : List Float) (first second fields : Slices ℕ) (n : Numbers) where
+module _ (luma chroma1 chroma2 : List Float) (p : Pair) (n : Numbers) where
   abbrev call : StatsCall
-  call = stats_by luma chroma1 chroma2 first second fields n
+  call = stats_by luma chroma1 chroma2 p n
 
   abbrev size : ℕ × ℕ
   size = (n.width, n.height)
@@ -44,26 +40,27 @@ module _ (luma chroma1 chroma2 : List Float) (first second fields : Slices ℕ) 
   abbrev chroma_size : ℕ × ℕ
   chroma_size = shrunk size n.ratio
 
+  -- a plane of each frame fits
+  abbrev Fit : (first second : View) → (size : ℕ × ℕ) → Type 0
+  Fit first second size = PlaneFits first.bytes.now first.pitch size.0 size.1 × PlaneFits second.bytes.now second.pitch size.0 size.1
+
   -- what the three passes ask
   pub record Runs : Type 0 where
-    pub on_luma : Gathers (onto first second 0) (task_of n 0 size)
-    pub on_first : Gathers (onto first second 1) (task_of n 1 chroma_size)
-    pub on_second : Gathers (onto first second 2) (task_of n 2 chroma_size)
-    pub luma_moves : Moves fields n.grid 1
-    pub chroma_moves : Moves fields n.grid n.ratio
+    pub luma_fits : Fit p.first.luma p.second.luma size
+    pub first_fits : Fit p.first.chroma1 p.second.chroma1 chroma_size
+    pub second_fits : Fit p.first.chroma2 p.second.chroma2 chroma_size
+    pub luma_moves : Moves p.fields p.grid 1
+    pub chroma_moves : Moves p.fields p.grid n.ratio
     pub luma_long : length luma ≡ 6 * area size
     pub first_long : length chroma1 ≡ 2 * area chroma_size
     pub second_long : length chroma2 ≡ 2 * area chroma_size
 
-  passing : (k : ℕ) (size : ℕ × ℕ) → Side size.0 → Side size.1
-      → (is_pitch (get_or n.first k 0) size.0 ≡ true) × (is_pitch (get_or n.second k 0) size.0 ≡ true)
-      → (is_plane (plane_at first n.first k) size ≡ true) × (is_plane (plane_at second n.second k) size ≡ true)
-      → Gathers (onto first second k) (task_of n k size)
-  passing k size wide tall p l =
-      record {
-        first_fits = plane_in (slice first k) (get_or n.first k 0) size.0 size.1 wide tall p.0 l.0;
-        second_fits = plane_in (slice second k) (get_or n.second k 0) size.0 size.1 wide tall p.1 l.1;
-      }
+  fit : (first second : View) (size : ℕ × ℕ) → Side size.0 → Side size.1
+      → (is_pitch first.pitch size.0 ≡ true) × (is_pitch second.pitch size.0 ≡ true)
+      → (is_plane (plane_by first) size ≡ true) × (is_plane (plane_by second) size ≡ true)
+      → Fit first second size
+  fit first second size wide tall p l =
+      (plane_in first.bytes.now first.pitch size.0 size.1 wide tall p.0 l.0, plane_in second.bytes.now second.pitch size.0 size.1 wide tall p.1 l.1)
 
   pub runs : stats_refusal call ≡ 0 → Runs
   unfolding stats_refusal each
@@ -76,19 +73,19 @@ module _ (luma chroma1 chroma2 : List Float) (first second fields : Slices ℕ) 
       let z = s.pair.second in
       let sides = sizes_in size (ok 0 _ refl) in
       let part = ratio_in size s.ratio sides (ok 1 _ refl) in
-      let p = two (is_pitch f.0.pitch size.0) (is_pitch z.0.pitch size.0) (ok 2 _ refl) in
-      let l = two (is_plane f.0 size) (is_plane z.0 size) (ok 4 _ refl) in
+      let pitched = two (is_pitch f.0.pitch size.0) (is_pitch z.0.pitch size.0) (ok 2 _ refl) in
+      let long = two (is_plane f.0 size) (is_plane z.0 size) (ok 4 _ refl) in
       let q = four (is_pitch f.1.pitch chroma_size.0) (is_pitch f.2.pitch chroma_size.0) (is_pitch z.1.pitch chroma_size.0) (is_pitch z.2.pitch chroma_size.0)
       (ok 3 _ refl) in
       let k = four (is_plane f.1 chroma_size) (is_plane f.2 chroma_size) (is_plane z.1 chroma_size) (is_plane z.2 chroma_size) (ok 5 _ refl) in
-      let long = exact_in s.sums.luma s.sums.chroma (sums_length size, chroma_sums_length size s.ratio) (ok 6 _ refl) in
+      let exact = exact_in s.sums.luma s.sums.chroma (sums_length size, chroma_sums_length size s.ratio) (ok 6 _ refl) in
       record {
-        on_luma = passing 0 size sides.0 sides.1 p l;
-        on_first = passing 1 chroma_size part.across part.down (q.0.0, q.1.0) (k.0.0, k.1.0);
-        on_second = passing 2 chroma_size part.across part.down (q.0.1, q.1.1) (k.0.1, k.1.1);
-        luma_moves = moves_in fields n.grid 1 (omega arith) t.0 t.1;
-        chroma_moves = moves_in fields n.grid s.ratio part.few.1 t.0 t.1;
-        luma_long = long.0;
-        first_long = long.1;
-        second_long = long.2;
+        luma_fits = fit p.first.luma p.second.luma size sides.0 sides.1 pitched long;
+        first_fits = fit p.first.chroma1 p.second.chroma1 chroma_size part.across part.down (q.0.0, q.1.0) (k.0.0, k.1.0);
+        second_fits = fit p.first.chroma2 p.second.chroma2 chroma_size part.across part.down (q.0.1, q.1.1) (k.0.1, k.1.1);
+        luma_moves = moves_in p.fields p.grid 1 (omega arith) t.0 t.1;
+        chroma_moves = moves_in p.fields p.grid s.ratio part.few.1 t.0 t.1;
+        luma_long = exact.0;
+        first_long = exact.1;
+        second_long = exact.2;
       }

@@ -4,17 +4,8 @@ use Rattle.std.specs.Float.{nan}
 use Rattle.rules.specs.declared.Taps.{Taps}
 use Rattle.rules.specs.Forms.{Motion}
 use Rattle.rules.specs.Float.{cut}
-use Rattle.sample.specs.Points.{PlaneFits}
 use Rattle.motion.specs.Moves.{steps_by, Holds}
-use Rattle.stats_batch.specs.declared.Layout.{Layout}
 use Rattle.stats_batch.specs.declared.Shifts.{Shifts}
-
--- the size of the plane that is lent
-abbrev pub size_of : Layout → ℕ × ℕ
-size_of l = (l.width, l.height)
-
-abbrev pub Fits : List ℕ → Layout → Type 0
-Fits raw l = PlaneFits raw l.pitch l.width l.height
 
 -- the first n entries are f 0, f 1, up to f (n - 1)
 abbrev pub Lanes : {A : Type 0} → (n : ℕ) → (none : A) → (f : ℕ → A) → List A → Type 0

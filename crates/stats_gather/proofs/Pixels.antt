@@ -73,11 +73,12 @@ run_after pairs many ts place x (suc n) l =
     rw (add-suc x n, run_after pairs many ts place x n l, add_assoc place (many * x) (many * n), ← (mul-add many x n))
 
 -- the pixels of a row so far, and a run more
-pub row_more : (pairs many : ℕ) (f : Pass) (y place x n k : ℕ) (before l r : List Float) → l ≡ row_added pairs many f y place x before
-    → k ≡ place + many * x → r ≡ run_added pairs many (λ j. terms_of f (x + j) y) k n l → r ≡ row_added pairs many f y place (x + n) before
+pub row_more : (pairs many : ℕ) (f : Pass) (y place x n k so_far to : ℕ) (before l r : List Float) → so_far ≡ x → to ≡ x + n
+    → l ≡ row_added pairs many f y place so_far before → k ≡ place + many * x → r ≡ run_added pairs many (λ j. terms_of f (x + j) y) k n l
+    → r ≡ row_added pairs many f y place to before
 unfolding row_added
-row_more pairs many f y place x n k before l r so_far there more =
-    rw (more, so_far, there) (run_after pairs many (λ j. terms_of f j y) place x n before)
+row_more pairs many f y place x n k so_far to before l r here end done there more =
+    rw (more, done, there, here, end) (run_after pairs many (λ j. terms_of f j y) place x n before)
 
 -- a run's places lie within the row's
 pub room : (many x n width : ℕ) → x + n ≤ width → many * x + many * n ≤ many * width

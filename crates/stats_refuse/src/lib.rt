@@ -1,94 +1,84 @@
 // The refusals of stats.
 #![tactic(auto)]
 
-ghost use Rattle.std.specs.Prelude.{◌≡◌, ◌&&◌, ◌/◌, true};
-ghost use Rattle.rules.specs.Domain.{is_pitch};
+ghost use Rattle.std.specs.Prelude.{◌≡◌};
+ghost use Rattle.std.specs.List.{list_all};
+ghost use Rattle.rules.specs.Domain.{is_pitch, is_plane};
 ghost use Rattle.rules.specs.Forms.{absent};
 ghost use Rattle.rules.specs.Refusals.{Table, first_fitting, pair_rows, stats_refusal, number_or, numbered};
-ghost use Rattle.stats_refuse.specs.Call.{four_planes, pitch_at, call_by, stats_by};
+ghost use Rattle.sample.specs.Points.{plane_by};
+ghost use Rattle.stats_refuse.specs.Call.{call_by, stats_by};
 
 use motion::Grid;
 use rules::Refusal;
+use sample::View;
 
-// The numbers of a call: the pairs before, luma's size and the ratio, the pitches of each frame's
-// planes, and what the motion is laid out by.
+// The three planes of a frame.
+#[derive(Clone, Copy)]
+pub struct Frame<'f> {
+    pub luma: View<'f>,
+    pub chroma1: View<'f>,
+    pub chroma2: View<'f>,
+}
+
+// Two frames, and the motion between them: its four fields, and what they are laid out by.
+#[derive(Clone, Copy)]
+pub struct Pair<'f, 'm> {
+    pub first: Frame<'f>,
+    pub second: Frame<'f>,
+    pub fields: [&'m [u16]; 4],
+    pub grid: Grid,
+}
+
+// The numbers of a call: the pairs before, luma's size and the ratio.
 #[derive(Clone, Copy)]
 pub struct Numbers {
     pub pairs: usize,
     pub width: usize,
     pub height: usize,
     pub ratio: usize,
-    pub first: [usize; 3],
-    pub second: [usize; 3],
-    pub grid: Grid,
 }
 
-// The pitches of the chroma planes of both frames.
-fn chroma_pitched(numbers: Numbers) -> bool
-    ensures { let across = numbers.width / numbers.ratio in
-        result
-        ≡ (is_pitch (pitch_at numbers.first 1) across
-        && (is_pitch (pitch_at numbers.first 2) across
-        && (is_pitch (pitch_at numbers.second 1) across && (is_pitch (pitch_at numbers.second 2) across && true)))) }
+// The pitches of byte planes.
+fn pitched(views: &[View], width: usize) -> bool
+    ensures { result ≡ list_all (λ v. is_pitch v.pitch width) views.now }
 {
-    let Numbers { first, second, .. } = numbers;
-    let across = plane::divided(numbers.width, numbers.ratio);
-    plane::pitched(first[1], across)
-        & plane::pitched(first[2], across)
-        & plane::pitched(second[1], across)
-        & plane::pitched(second[2], across)
+    views.iter().all(|view| plane::pitched(view.pitch, width))
 }
 
 // And their lengths.
-fn chroma_planed(first: [&[u8]; 3], second: [&[u8]; 3], numbers: Numbers) -> bool
-    ensures { result ≡ four_planes first.entry second.entry numbers (numbers.width / numbers.ratio, numbers.height / numbers.ratio) }
+fn planed(views: &[View], width: usize, height: usize) -> bool
+    ensures { result ≡ list_all (λ v. is_plane (plane_by v) (width, height)) views.now }
 {
-    let Numbers {
-        first: one,
-        second: two,
-        ratio,
-        ..
-    } = numbers;
-    let across = plane::divided(numbers.width, ratio);
-    let down = plane::divided(numbers.height, ratio);
-    plane::planed(first[1].len(), one[1], across, down)
-        & plane::planed(first[2].len(), one[2], across, down)
-        & plane::planed(second[1].len(), two[1], across, down)
-        & plane::planed(second[2].len(), two[2], across, down)
+    views.iter().all(|view| plane::planed(view.bytes.len(), view.pitch, width, height))
 }
 
 // The tests of a pair, in the order of the table: its planes, whether the sums are right, and its motion.
 #[tactic(auto, unfolding(rules::specs::Refusals::first_fitting, rules::specs::Forms::each))]
-pub fn pair_refusal(
-    sums: bool,
-    first: [&[u8]; 3],
-    second: [&[u8]; 3],
-    fields: [&[u16]; 4],
-    numbers: Numbers,
-) -> Result<(), Refusal>
+pub fn pair_refusal(sums: bool, pair: Pair, numbers: Numbers) -> Result<(), Refusal>
     ensures { (rows : Table)
-        → first_fitting (pair_rows (call_by absent first.entry second.entry fields.entry numbers) sums rows)
+        → first_fitting (pair_rows (call_by absent pair.entry numbers) sums rows)
         ≡ number_or result (first_fitting rows) }
 {
     let Numbers {
         width,
         height,
         ratio,
-        first: one,
-        second: two,
         ..
     } = numbers;
+    let Pair { first, second, .. } = pair;
+    let lumas = [first.luma, second.luma];
+    let chromas = [first.chroma1, first.chroma2, second.chroma1, second.chroma2];
+    let across = plane::divided(width, ratio);
+    let down = plane::divided(height, ratio);
     plane::ensure(plane::sizes(width, height), Refusal::Size)?;
     plane::ensure(plane::ratioed(ratio, width, height), Refusal::Ratio)?;
-    let lumas = plane::pitched(one[0], width) & plane::pitched(two[0], width);
-    plane::ensure(lumas, Refusal::Pitch)?;
-    plane::ensure(chroma_pitched(numbers), Refusal::Pitch)?;
-    let lumas = plane::planed(first[0].len(), one[0], width, height)
-        & plane::planed(second[0].len(), two[0], width, height);
-    plane::ensure(lumas, Refusal::Length)?;
-    plane::ensure(chroma_planed(first, second, numbers), Refusal::Length)?;
+    plane::ensure(pitched(&lumas, width), Refusal::Pitch)?;
+    plane::ensure(pitched(&chromas, across), Refusal::Pitch)?;
+    plane::ensure(planed(&lumas, width, height), Refusal::Length)?;
+    plane::ensure(planed(&chromas, across, down), Refusal::Length)?;
     plane::ensure(sums, Refusal::Length)?;
-    motion_limits::motion_refusal(fields, numbers.grid)
+    motion_limits::motion_refusal(pair.fields, pair.grid)
 }
 
 // The tests of a call, in the order of the table.
@@ -97,12 +87,10 @@ pub fn stats_refusal(
     luma: &[f32],
     chroma1: &[f32],
     chroma2: &[f32],
-    first: [&[u8]; 3],
-    second: [&[u8]; 3],
-    fields: [&[u16]; 4],
+    pair: Pair,
     numbers: Numbers,
 ) -> Result<(), Refusal>
-    ensures { numbered result ≡ stats_refusal (stats_by luma.now chroma1.now chroma2.now first.entry second.entry fields.entry numbers) }
+    ensures { numbered result ≡ stats_refusal (stats_by luma.now chroma1.now chroma2.now pair.entry numbers) }
 {
     let sums = plane::exact_planes(
         luma.len(),
@@ -113,6 +101,6 @@ pub fn stats_refusal(
         numbers.height,
         numbers.ratio,
     );
-    pair_refusal(sums, first, second, fields, numbers)?;
+    pair_refusal(sums, pair, numbers)?;
     plane::ensure(numbers.pairs <= 11, Refusal::Pairs)
 }

@@ -9,7 +9,8 @@ ghost use Rattle.table.specs.Models.{model_put};
 pub fn cells(size: usize) -> usize
     ensures { result ≡ cells_of size }
 {
-    // Kept: div_ceil would be a second way from a pixel to its cell, and the one way holds no division.
+    // Kept: (a) a rule of the project: one way from a pixel to its cell, which holds no division. div_ceil would be a
+    // second one.
     let whole = layer_lookup::cell_of(size, 8);
     if whole * 8 == size { whole } else { whole + 1 }
 }

@@ -17,36 +17,35 @@ use Rattle.rules.specs.Walk.{chunk_of, pairs_in, is_turn, slot, walk_size, moved
 use Rattle.calls.specs.Lent.{slots_of}
 use Rattle.laws.proofs.Answered.{number_some}
 use Rattle.told.specs.Told.{PairTold}
-use Rattle.plane.specs.Slices.{Slices}
-use Rattle.stats_refuse.specs.declared.Numbers as Stats
+use Rattle.stats_refuse.specs.declared.Numbers.{Numbers}
+use Rattle.stats_refuse.specs.declared.Pair.{Pair}
 use Rattle.stats_refuse.specs.Call.{call_by, stats_by}
 use Rattle.stats.specs.Answered.{Added}
 use Rattle.walk_laws.proofs.Accepted.{stats_right, turn}
 use Rattle.walk_laws.proofs.Due.{few_layers}
 use Rattle.walk_state.specs.Counts.{Room, are_long, told_by}
 use Rattle.walk_state.proofs.Numbers.{told, by_lengths}
-use Rattle.walk_pair.specs.declared.Numbers.{Numbers}
 use Rattle.walk_pair.specs.Call.{chunk_numbers, handed_by}
 
 -- a refusal by other names of its numbers and of what holds of its sums
-pub by_names : (first second fields : Slices ℕ) {m n : Stats.Numbers} {long sums : Bool} (rows : Table) {r : ℕ} → m ≡ n → sums ≡ long
-    → first_fitting (pair_rows (call_by absent first second fields m) sums rows) ≡ r → r ≡ first_fitting (pair_rows (call_by absent first second fields n) long rows)
-by_names first second fields rows e f is = sym is ∙ rw (e, f)
+pub by_names : (p : Pair) {m n : Numbers} {long sums : Bool} (rows : Table) {r : ℕ} → m ≡ n → sums ≡ long
+    → first_fitting (pair_rows (call_by absent p m) sums rows) ≡ r → r ≡ first_fitting (pair_rows (call_by absent p n) long rows)
+by_names p rows e f is = sym is ∙ rw (e, f)
 
 -- as many pairs are in the chunk of the next one
 in_chunk : (added : ℕ) → pairs_in added (chunk_of added) ≡ added % 12
 in_chunk added = omega arith
 
-module _ (w : Walk) (slots : List Slot) (first second fields : Slices ℕ) (n : Numbers) where
+module _ (w : Walk) (slots : List Slot) (p : Pair) (number : ℕ) where
   abbrev call : WalkPairCall
-  call = handed_by w slots first second fields n
+  call = handed_by w slots p number
 
   -- the call of stats on a slot
   abbrev on : Slot → StatsCall
-  on s = stats_by s.0 s.1 s.2 first second fields (chunk_numbers w n)
+  on s = stats_by s.0 s.1 s.2 p (chunk_numbers w)
 
   pub number_is : (long : Bool) → long ≡ are_slots slots (walk_size w) w.ratio → {r : ℕ}
-      → r ≡ first_fitting (pair_rows (call_by absent first second fields (chunk_numbers w n)) long ((12 unless is_turn w n.number) ∷ [])) → r ≡ walk_pair_refusal call
+      → r ≡ first_fitting (pair_rows (call_by absent p (chunk_numbers w)) long ((12 unless is_turn w number) ∷ [])) → r ≡ walk_pair_refusal call
   unfolding walk_pair_refusal
   number_is long e is = rw (← e) is
 
@@ -65,20 +64,20 @@ module _ (w : Walk) (slots : List Slot) (first second fields : Slices ℕ) (n : 
     pub taken : length slots ≡ 3 → 0 ≡ walk_pair_refusal call → stats_refusal (on s) ≡ 0
     taken three e = rw (← own) (stats_right call three (sym e))
 
-    pub ran : 0 ≡ walk_pair_refusal call → {m : Stats.Numbers} → m ≡ chunk_numbers w n → (j : ℕ) → chunk_of w.added % 3 ≡ j
-        → (luma chroma1 chroma2 : List Float) → Added (stats_by s.0 s.1 s.2 first second fields m) luma chroma1 chroma2
+    pub ran : 0 ≡ walk_pair_refusal call → {m : Numbers} → m ≡ chunk_numbers w → (j : ℕ) → chunk_of w.added % 3 ≡ j
+        → (luma chroma1 chroma2 : List Float) → Added (stats_by s.0 s.1 s.2 p m) luma chroma1 chroma2
         → (next : Walk) → next ≡ moved w (w.added + 1) (w.taken + 0) → PairTold call (set slots j (luma, chroma1, chroma2)) (told_by (Ok next) w)
     unfolding pair_slots
     ran e named j k luma chroma1 chroma2 added next is =
         let sums : Added (on s) luma chroma1 chroma2 =
-        subst (λ (m : Stats.Numbers). Added (stats_by s.0 s.1 s.2 first second fields m) luma chroma1 chroma2) named added in
+        subst (λ (m : Numbers). Added (stats_by s.0 s.1 s.2 p m) luma chroma1 chroma2) named added in
         let none : w.taken + 0 ≡ w.taken = omega arith in
         record { told = rw (is, none, ← e); slots_left = rw (← e, own, ← k, sums.luma_is, sums.chroma1_is, sums.chroma2_is) }
 
 -- the number of a refusal, by the lengths of the nine slices
-pub number : (w : Walk) (first second fields : Slices ℕ) (n : Numbers) (a b c d e f g h i : List Float) {r : ℕ}
-    → r ≡ first_fitting (pair_rows (call_by absent first second fields (chunk_numbers w n))
-    (are_long ((length a ∷ length b ∷ length c ∷ []) ∷ (length d ∷ length e ∷ length f ∷ []) ∷ (length g ∷ length h ∷ length i ∷ []) ∷ []) w) ((12 unless is_turn w n.number) ∷ []))
-    → r ≡ walk_pair_refusal (handed_by w (slots_of a b c d e f g h i) first second fields n)
-number w first second fields n a b c d e f g h i is =
-    number_is w (slots_of a b c d e f g h i) first second fields n _ (by_lengths w a b c d e f g h i) is
+pub number_by : (w : Walk) (p : Pair) (number : ℕ) (a b c d e f g h i : List Float) {r : ℕ}
+    → r ≡ first_fitting (pair_rows (call_by absent p (chunk_numbers w))
+    (are_long ((length a ∷ length b ∷ length c ∷ []) ∷ (length d ∷ length e ∷ length f ∷ []) ∷ (length g ∷ length h ∷ length i ∷ []) ∷ []) w) ((12 unless is_turn w number) ∷ []))
+    → r ≡ walk_pair_refusal (handed_by w (slots_of a b c d e f g h i) p number)
+number_by w p number a b c d e f g h i is =
+    number_is w (slots_of a b c d e f g h i) p number _ (by_lengths w a b c d e f g h i) is

@@ -4,16 +4,14 @@ use Rattle.rules.specs.declared.Walk.{Walk}
 use Rattle.rules.specs.Forms.{Slot}
 use Rattle.rules.specs.Calls.{WalkPairCall}
 use Rattle.calls.specs.Lent.{walk_pair_call}
-use Rattle.plane.specs.Slices.{Slices}
-use Rattle.stats_refuse.specs.declared.Numbers as Stats
+use Rattle.stats_refuse.specs.declared.Numbers.{Numbers}
+use Rattle.stats_refuse.specs.declared.Pair.{Pair}
 use Rattle.stats_refuse.specs.Call.{pair_by}
-use Rattle.walk_pair.specs.declared.Numbers.{Numbers}
 
--- the numbers of stats, for the part of the pair's chunk
-abbrev pub chunk_numbers : Walk → Numbers → Stats.Numbers
-chunk_numbers w n =
-    record { pairs = w.added % 12; width = w.width; height = w.height; ratio = w.ratio; first = n.first; second = n.second; grid = n.grid }
+-- the numbers of stats, for the part of a pair's chunk
+abbrev pub chunk_numbers : Walk → Numbers
+chunk_numbers w = record { pairs = w.added % 12; width = w.width; height = w.height; ratio = w.ratio }
 
 -- the call
-abbrev pub handed_by : Walk → List Slot → (first second fields : Slices ℕ) → Numbers → WalkPairCall
-handed_by w slots first second fields n = walk_pair_call w slots n.number (pair_by first second fields (chunk_numbers w n))
+abbrev pub handed_by : Walk → List Slot → Pair → (number : ℕ) → WalkPairCall
+handed_by w slots p number = walk_pair_call w slots number (pair_by p)

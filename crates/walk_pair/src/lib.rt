@@ -11,60 +11,36 @@ ghost use Rattle.stats_refuse.specs.Call.{call_by};
 ghost use Rattle.walk_state.specs.Counts.{are_long, told_by};
 ghost use Rattle.walk_pair.specs.Call.{chunk_numbers, handed_by};
 
-use motion::Grid;
 use rules::{Refusal, Walk};
+use stats_refuse::{Numbers, Pair};
 
-// The numbers of a call: the pair's own number, the pitches of each frame's planes, and what the motion is laid out by.
-#[derive(Clone, Copy)]
-pub struct Numbers {
-    pub number: usize,
-    pub first: [usize; 3],
-    pub second: [usize; 3],
-    pub grid: Grid,
-}
-
-// The numbers of stats, for the part of the pair's chunk.
-fn of_chunk(walk: Walk, numbers: Numbers) -> stats_refuse::Numbers
-    ensures { result ≡ chunk_numbers walk numbers }
+// The numbers of stats, for the part of a pair's chunk.
+fn of_chunk(walk: Walk) -> Numbers
+    ensures { result ≡ chunk_numbers walk }
 {
-    let Numbers {
-        first,
-        second,
-        grid,
-        ..
-    } = numbers;
-    stats_refuse::Numbers {
+    Numbers {
         pairs: walk.added % 12,
         width: walk.width,
         height: walk.height,
         ratio: walk.ratio,
-        first,
-        second,
-        grid,
     }
 }
 
 // The tests of a call, in the order of the table, by the lengths of the sums.
 #[tactic(auto, unfolding(rules::specs::Refusals::first_fitting))]
-fn tested(
-    lengths: [[usize; 3]; 3],
-    walk: Walk,
-    first: [&[u8]; 3],
-    second: [&[u8]; 3],
-    fields: [&[u16]; 4],
-    numbers: Numbers,
-) -> Result<(), Refusal>
-    ensures { numbered result ≡ first_fitting (pair_rows (call_by absent first.entry second.entry fields.entry (chunk_numbers walk numbers)) (are_long lengths walk)
-        ((12 unless is_turn walk numbers.number) ∷ [])) }
+fn tested(lengths: [[usize; 3]; 3], walk: Walk, pair: Pair, number: usize) -> Result<(), Refusal>
+    ensures { numbered result ≡ first_fitting (pair_rows (call_by absent pair.entry (chunk_numbers walk)) (are_long lengths walk)
+        ((12 unless is_turn walk number) ∷ [])) }
 {
     let sums = walk_state::slotted(lengths, walk);
-    stats_refuse::pair_refusal(sums, first, second, fields, of_chunk(walk, numbers))?;
-    plane::ensure(walk_state::turn(walk, numbers.number), Refusal::Turn)
+    stats_refuse::pair_refusal(sums, pair, of_chunk(walk))?;
+    plane::ensure(walk_state::turn(walk, number), Refusal::Turn)
 }
 
-// Takes a pair, or refuses: the contract is the equation for both. `chroma12` are the sums of plane 2 in slot 1.
-// Kept: nine slices, each lent apart, as the C interface gives them.
-pub fn pair<'f>(
+// Takes the pair of this number, or refuses: the contract is the equation for both. `chroma12` are the sums of plane 2
+// in slot 1.
+// Kept: (a) nine slices, each lent apart, as the C interface gives them.
+pub fn pair(
     luma0: &mut [f32],
     chroma01: &mut [f32],
     chroma02: &mut [f32],
@@ -75,15 +51,13 @@ pub fn pair<'f>(
     chroma21: &mut [f32],
     chroma22: &mut [f32],
     walk: Walk,
-    first: [&'f [u8]; 3],
-    second: [&'f [u8]; 3],
-    fields: [&[u16]; 4],
-    numbers: Numbers,
+    pair: Pair,
+    number: usize,
 ) -> Result<Walk, Refusal>
     ensures { PairTold (handed_by walk
         (slots_of luma0.old chroma01.old chroma02.old luma1.old chroma11.old chroma12.old
         luma2.old chroma21.old chroma22.old)
-        first.entry second.entry fields.entry numbers)
+        pair.entry number)
         (slots_of luma0.new chroma01.new chroma02.new luma1.new chroma11.new chroma12.new
         luma2.new chroma21.new chroma22.new)
         (told_by result walk) }
@@ -93,12 +67,12 @@ pub fn pair<'f>(
         [luma1.len(), chroma11.len(), chroma12.len()],
         [luma2.len(), chroma21.len(), chroma22.len()],
     ];
-    tested(lengths, walk, first, second, fields, numbers)?;
-    let to = of_chunk(walk, numbers);
+    tested(lengths, walk, pair, number)?;
+    let numbers = of_chunk(walk);
     match walk_state::slot_of(walk.added) {
-        0 => stats::added(luma0, chroma01, chroma02, first, second, fields, to),
-        1 => stats::added(luma1, chroma11, chroma12, first, second, fields, to),
-        _ => stats::added(luma2, chroma21, chroma22, first, second, fields, to),
+        0 => stats::added(luma0, chroma01, chroma02, pair, numbers),
+        1 => stats::added(luma1, chroma11, chroma12, pair, numbers),
+        _ => stats::added(luma2, chroma21, chroma22, pair, numbers),
     }
     Ok(walk_state::after(walk, 1, 0))
 }

@@ -11,13 +11,13 @@ use Rattle.walk_pair.proofs.tested.Goals as goal
 pub returns-in_err-pair_refusal : goal.returns-in_err-pair_refusal
 returns-in_err-pair_refusal c =
     let a = c.args in
-    let rows : Table = (12 unless is_turn a.walk a.numbers.number) ∷ [] in
+    let rows : Table = (12 unless is_turn a.walk a.number) ∷ [] in
     let p = err_from_is_err_and c.from_residual.result c.from_residual.ensures.1 in
-    rw (p.1, p.2) (by_names a.first a.second a.fields rows c.of_chunk.ensures c.slotted-sums.ensures (c.in_err-pair_refusal.ensures rows))
+    rw (p.1, p.2) (by_names a.pair rows c.of_chunk.ensures c.slotted-sums.ensures (c.in_err-pair_refusal.ensures rows))
 
 pub returns : goal.returns
 returns c =
     let a = c.args in
-    let rows : Table = (12 unless is_turn a.walk a.numbers.number) ∷ [] in
+    let rows : Table = (12 unless is_turn a.walk a.number) ∷ [] in
     last_row Turn _ c.ensure.result (rw c.turn.ensures at c.ensure.ensures)
-    ∙ by_names a.first a.second a.fields rows c.of_chunk.ensures c.slotted-sums.ensures (c.in_ok-pair_refusal.ensures rows)
+    ∙ by_names a.pair rows c.of_chunk.ensures c.slotted-sums.ensures (c.in_ok-pair_refusal.ensures rows)

@@ -1,9 +1,9 @@
--- `stats_batch::steps` meets its contract. Assumes nothing.
+-- `stats_batch::Run::steps` meets its contract. Assumes nothing.
 use Rattle.std.proofs.Common.{◌∙◌, arith, length-set}
 use Rattle.motion.specs.Moves.{motion_of}
 use Rattle.motion.proofs.Fields.{to, around_place, carried_by}
 use Rattle.stats_batch.proofs.Laws.{steps_more}
-use Rattle.stats_batch.proofs.steps.Goals as goal
+use Rattle.stats_batch.proofs.Run.steps.Goals as goal
 
 pub loop-k-preserved : goal.loop-k-preserved
 loop-k-preserved c =

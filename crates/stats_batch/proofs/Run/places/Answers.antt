@@ -1,7 +1,7 @@
--- `stats_batch::places` meets its contract. Assumes nothing.
+-- `stats_batch::Run::places` meets its contract. Assumes nothing.
 use Rattle.std.proofs.Common.{of_calls}
 use lib.Ieee.{nan}
-use Rattle.stats_batch.proofs.places.Goals as goal
+use Rattle.stats_batch.proofs.Run.places.Goals as goal
 
 pub returns-clause-are : goal.returns-clause-are
 returns-clause-are c k h =

@@ -1,6 +1,6 @@
--- `stats_batch::wholes` meets its contract. Assumes nothing.
+-- `stats_batch::Run::wholes` meets its contract. Assumes nothing.
 use Rattle.std.proofs.Common.{of_calls}
-use Rattle.stats_batch.proofs.wholes.Goals as goal
+use Rattle.stats_batch.proofs.Run.wholes.Goals as goal
 
 pub returns : goal.returns
 returns c k h =

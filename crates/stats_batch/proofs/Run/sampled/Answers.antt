@@ -1,9 +1,9 @@
--- `stats_batch::sampled` meets its contract. Assumes nothing.
+-- `stats_batch::Run::sampled` meets its contract. Assumes nothing.
 use Rattle.std.proofs.Common.{of_calls}
 use lib.Ieee.{nan}
 use Rattle.rules.specs.Reading.{sample}
 use Rattle.sample.specs.Points.{sampled_at, sampled_row}
-use Rattle.stats_batch.proofs.sampled.Goals as goal
+use Rattle.stats_batch.proofs.Run.sampled.Goals as goal
 
 pub returns : goal.returns
 unfolding sample sampled_at sampled_row
