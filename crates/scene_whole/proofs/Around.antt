@@ -20,7 +20,7 @@ use Rattle.rules.specs.Scene.{sign, under, point, stepped, ring, mean_or, filled
 use Rattle.laws.proofs.Whole.{mul_int}
 use Rattle.layer_lent.specs.declared.Plan.{Plan}
 use Rattle.layer_lent.specs.Lent.{holding, Planned, Inside}
-use Rattle.scene_whole.specs.Rings.{held_at, seen, gathered_on, row_ring, whole_ring, means}
+use Rattle.scene_whole.specs.Rings.{held_at, shown, gathered_on, row_ring, whole_ring, means}
 use Rattle.laws.proofs.Points.{model_whole}
 use Rattle.scene_whole.proofs.Points.{sample_whole}
 use Rattle.scene_whole.proofs.Moved.{held_left, held_middle, held_right}
@@ -56,8 +56,8 @@ radius_in n low high = ((le-div_iff_mul-le {k = n} {x = 1} {y = 4} low).1 (omega
 
 module _ (l : Layer) (plane : ℕ) (raw : Plane) (small : (k : ℕ) → get_or raw.bytes k 0 ≤ 255) where
   -- the scene at a whole point
-  pub under_whole : (x y : ℕ) → x ≤ 4096 → y ≤ 4096 → under l plane raw (float x) (float y) ≡ seen l plane raw x y
-  unfolding under seen
+  pub under_whole : (x y : ℕ) → x ≤ 4096 → y ≤ 4096 → under l plane raw (float x) (float y) ≡ shown l plane raw x y
+  unfolding under shown
   under_whole x y X Y = rw (sample_whole raw x y (plane_size l plane) X Y small, model_whole l plane x y X Y)
 
   -- ---- a ring of a whole radius

@@ -7,27 +7,21 @@ use Rattle.rules.specs.Literals.{0·0}
 use Rattle.rules.specs.Reading.{at, texel}
 use Rattle.rules.specs.Scene.{lifted, gathered, mean_or}
 use Rattle.layer_lent.specs.declared.Plan.{Plan}
-use Rattle.layer_lent.specs.Lent.{lay, Sound, Held}
-use Rattle.sample.specs.Points.{PlaneFits}
+use Rattle.layer_lent.specs.Lent.{lay, Held}
 use Rattle.scene_whole.specs.declared.Band.{Band}
-
--- a layer, and a byte plane over the plane that is worked on
-pub record SoundOver (p : Plan) (held : Held) (raw : List ℕ) (pitch : ℕ) : Type 0 where
-  pub sound : Sound p held
-  pub fits : PlaneFits raw pitch p.across p.down
 
 -- x a radius back, where it is, or a radius on, held to 0 .. size - 1
 abbrev pub held_at : (x k radius size : ℕ) → ℕ
 held_at x k radius size = cond (eqb k 0) (x - radius) (cond (eqb k 1) x (min (x + radius) (size - 1)))
 
 -- the scene at a pixel, without filling
-unfoldable pub seen : Layer → (plane : ℕ) → (raw : Plane) → (x y : ℕ) → Scene
-seen l plane raw x y = lifted (at raw x y) (texel l plane x y)
+unfoldable pub shown : Layer → (plane : ℕ) → (raw : Plane) → (x y : ℕ) → Scene
+shown l plane raw x y = lifted (at raw x y) (texel l plane x y)
 
 -- a ring with point k of its row `down` more, which lies in this row of the plane
 unfoldable pub gathered_on : Layer → (plane : ℕ) → (raw : Plane) → (width x row radius down k : ℕ) → Ring → Ring
 gathered_on l plane raw width x row radius down k r =
-    cond (eqb down 1 && eqb k 1) r (gathered (seen l plane raw (held_at x k radius width) row) r)
+    cond (eqb down 1 && eqb k 1) r (gathered (shown l plane raw (held_at x k radius width) row) r)
 
 -- with the first points of that row
 unfoldable pub row_ring : Layer → (plane : ℕ) → (raw : Plane) → (width x row radius down points : ℕ) → Ring → Ring

@@ -7,12 +7,12 @@ use Rattle.rules.specs.Float.{◌≼◌, abs}
 use Rattle.rules.specs.Reading.{texel}
 use Rattle.layer_lent.specs.Lent.{lay}
 use Rattle.layer_lent.proofs.Signed.{back}
-use Rattle.scene_whole.specs.Rings.{seen}
+use Rattle.scene_whole.specs.Rings.{shown}
 use Rattle.scene_whole.proofs.Gathers.{taken, passed}
 use Rattle.scene_whole.proofs.gathered_at.Goals as goal
 
 pub returns-then-strong : goal.returns-then-strong
-unfolding seen
+unfolding shown
 returns-then-strong g c =
     let a = c.args in
     let n = c.gains-total in
@@ -22,7 +22,7 @@ returns-then-strong g c =
     rw (c.added.ensures, c.lifted_at.ensures) (taken _ _ _ t)
 
 pub returns-else-strong : goal.returns-else-strong
-unfolding seen
+unfolding shown
 returns-else-strong g c =
     let a = c.args in
     let n = c.gains-total in
