@@ -1,19 +1,12 @@
--- A layer between its pixels, over a byte plane: what its readers ask, and the model by the columns and rows around a
--- point.
+-- A layer between its pixels: what its readers ask, and the model by the columns and rows around a point.
 use Rattle.std.specs.Prelude.{◌≡◌, cond, ◌&&◌, List, ℕ, ◌<◌}
 use Rattle.std.specs.Float.Ieee as Ieee
 use Rattle.rules.specs.declared.Model.{Model}
 use Rattle.rules.specs.declared.Taps.{Taps}
 use Rattle.rules.specs.Literals.{0·0}
 use Rattle.rules.specs.Reading.{texel, mix_models}
-use Rattle.sample.specs.Points.{PlaneFits}
 use Rattle.layer_lent.specs.declared.Plan.{Plan}
-use Rattle.layer_lent.specs.Lent.{lay, Sound, Inside, Held}
-
--- a layer that can be read, and a byte plane over the plane that is worked on
-pub record LiesOver (p : Plan) (held : Held) (raw : List ℕ) (pitch : ℕ) : Type 0 where
-  pub sound : Sound p held
-  pub fits : PlaneFits raw pitch p.across p.down
+use Rattle.layer_lent.specs.Lent.{lay, Inside, Held}
 
 -- two columns, and two rows, of a plane
 pub record Around (width height : ℕ) (across down : Taps) : Type 0 where

@@ -13,19 +13,20 @@ loop-dy-init g c = block_none _ _ _ _ _
 
 pub gain_row-sum-requires : goal.gain_row-sum-requires
 gain_row-sum-requires g c =
-    let h = c.requires.planned in record {
-      fits = rw (c.place-row.ensures, ← c.requires.same) (row_fits c.args.plan c.args.x c.args.y h c.requires.inside _ c.requires.long c.loop-dy.dy (omega arith));
-      small = omega (arith, c.loop-dy.invariant.small, h.span);
+    let s = c.args.sheet.sound in record {
+      fits = rw (c.place-row.ensures, ← c.requires.same) (row_fits c.args.sheet.plan c.args.x c.args.y s.planned c.requires.inside _ s.luma_long c.loop-dy.dy (omega arith));
+      small = omega (arith, c.loop-dy.invariant.small, s.planned.span, c.requires.same);
     }
 
 pub loop-dy-preserved : goal.loop-dy-preserved
 loop-dy-preserved g c =
     let done = rw c.place-row.ensures at c.gain_row-sum.ensures in
-    let few = rw c.requires.same at c.requires.planned.span.1 in
+    let few = rw c.requires.same at c.args.sheet.sound.planned.span.1 in
     rw (back w32 c.gain_row-sum.result c.gain_row-sum.type_inv) (block_more few c.loop-dy.invariant done)
 
 pub returns : goal.returns
 returns g c =
     let h = c.requires in
+    let s = c.args.sheet in
     let e : c.loop-dy.dy ≡ g.row.SPAN = omega arith in
-    of_block c.args.plan h.planned _ _ _ _ (λ one. h.more (sym h.same ∙ one)) (rw h.same (rw e at c.loop-dy.invariant))
+    of_block s.plan s.sound.planned _ _ _ _ (λ one. h.more (sym h.same ∙ one)) (rw h.same (rw e at c.loop-dy.invariant))

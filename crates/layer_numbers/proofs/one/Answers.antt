@@ -16,6 +16,6 @@ returns g c =
     let small : mag e < 2 ^ 15 = omega arith in
     let is : c.from.result ≡ e = c.from.ensures ∙ back w16 e small in
     rw (back w32 c.from.result c.from.type_inv, is) (record {
-      is = λ a b. one_is _ _ _ _ _ e (span_is _ c.requires.planned) c.requires.one small (ap (λ (g : Gain). g.0) c.luma_gain.ensures);
+      is = λ a b. one_is _ _ _ _ _ e (span_is _ c.args.sheet.sound.planned) c.requires.one small (ap (λ (g : Gain). g.0) c.luma_gain.ensures);
       small = omega (arith, nat_abs-le e small);
     })

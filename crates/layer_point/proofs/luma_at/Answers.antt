@@ -8,4 +8,4 @@ pub returns : goal.returns
 returns g c =
     let h = c.requires in
     rw (c.luma_texel.ensures, back w16 c.entry-2.result c.entry-2.type_inv, back w16 c.entry.result c.entry.type_inv, c.entry-2.ensures, c.entry.ensures, c.place-k.ensures)
-    (luma_is c.args.plan (g.L.Lent.held c.args.layer) c.args.shift c.args.x c.args.y h.luma h.shifted)
+    (luma_is c.args.sheet.plan (g.L.Lent.held c.args.sheet.layer) c.args.shift c.args.x c.args.y h.luma h.shifted)
