@@ -1,10 +1,10 @@
 // A layer's model at a point, by the columns and rows around it.
 #![tactic(auto)]
 
-ghost use Rattle.std.specs.Prelude.{◌≡◌, ◌*◌, ◌<◌};
+ghost use Rattle.std.specs.Prelude.{◌≡◌, ℕ, ◌*◌};
 ghost use Rattle.rules.specs.Reading.{mix_models, texel as texel_of};
 ghost use Rattle.layer_lent.specs.Lent.{lay, Inside};
-ghost use Rattle.layer_point.specs.Points.{Reads, Around, row_of, point_of};
+ghost use Rattle.layer_point.specs.Points.{Gives, Readable, Around, row_of, point_of};
 
 use layer_lent::{Lent, Sheet};
 use rules::{Gain, Model, Offset, Taps};
@@ -20,39 +20,26 @@ fn mix_models(one: Model, other: Model, share: f32) -> Model
 }
 
 // Two models of a row, mixed. What reads the model of a pixel is given.
-fn row<L: Lent, F: Fn(Sheet<L>, usize, usize) -> Model + Copy>(
-    read: F,
-    sheet: Sheet<L>,
-    across: Taps,
-    y: usize,
-) -> Model
-    requires reads { Reads sheet.plan (L.held sheet.layer) (F.pre read sheet) (F.post read sheet) }
-    requires left { across.first < sheet.plan.across }
-    requires right { across.second < sheet.plan.across }
-    requires above { y < sheet.plan.down }
-    ensures { result ≡ row_of (texel_of (lay sheet.plan.shape (L.held sheet.layer)) sheet.plan.shape.plane) across y }
+fn row<F: Fn(usize, usize) -> Model + Copy>(read: F, across: Taps, y: usize) -> Model
+    requires left { F.pre read across.first y }
+    requires right { F.pre read across.second y }
+    ensures { (t : ((x y : ℕ) → Model)) → Gives (F.post read) t → result ≡ row_of t across y }
 {
-    let left = read(sheet, across.first, y);
-    let right = read(sheet, across.second, y);
+    let left = read(across.first, y);
+    let right = read(across.second, y);
     mix_models(left, right, across.share)
 }
 
 // The model at a point; at a whole point that pixel's own.
-fn point<L: Lent, F: Fn(Sheet<L>, usize, usize) -> Model + Copy>(
-    read: F,
-    sheet: Sheet<L>,
-    across: Taps,
-    down: Taps,
-) -> Model
-    requires reads { Reads sheet.plan (L.held sheet.layer) (F.pre read sheet) (F.post read sheet) }
-    requires around { Around sheet.plan.across sheet.plan.down across down }
-    ensures { result ≡ point_of (texel_of (lay sheet.plan.shape (L.held sheet.layer)) sheet.plan.shape.plane) across down }
+fn point<F: Fn(usize, usize) -> Model + Copy>(read: F, across: Taps, down: Taps) -> Model
+    requires { Readable (F.pre read) across down }
+    ensures { (t : ((x y : ℕ) → Model)) → Gives (F.post read) t → result ≡ point_of t across down }
 {
     if (across.share == 0.0) & (down.share == 0.0) {
-        return read(sheet, across.first, down.first);
+        return read(across.first, down.first);
     }
-    let upper = row(read, sheet, across, down.first);
-    let lower = row(read, sheet, across, down.second);
+    let upper = row(read, across, down.first);
+    let lower = row(read, across, down.second);
     mix_models(upper, lower, down.share)
 }
 
@@ -79,11 +66,11 @@ pub fn model_by<L: Lent>(sheet: Sheet<L>, across: Taps, down: Taps) -> Model
     let plan = sheet.plan;
     if plan.shape.plane == 0 {
         let shift = plane::place(plan.shape.height, plan.shape.luma_pitch, 0);
-        let luma = |sheet: Sheet<L>, x: usize, y: usize| luma_at(sheet, shift, x, y);
-        return point(luma, sheet, across, down);
+        return point(|x, y| luma_at(sheet, shift, x, y), across, down);
     }
     if plan.span == 2 {
-        return point(layer_texel::straight::<L, false, 2>, sheet, across, down);
+        let straight = |x, y| layer_texel::straight::<L, false, 2>(sheet, x, y);
+        return point(straight, across, down);
     }
-    point(layer_texel::texel::<L>, sheet, across, down)
+    point(|x, y| layer_texel::texel(sheet, x, y), across, down)
 }
