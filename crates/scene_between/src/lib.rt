@@ -43,10 +43,10 @@ fn beside(x: f32, k: usize, radius: f32, size: usize) -> f32
 }
 
 // A ring with the value at a point more, if it is lifted: the plane is read only there.
-fn gathered_at<L: Lent>(seen: Seen<L>, x: f32, y: f32, ring: Ring) -> Ring
-    requires { Inside seen.sheet.plan (cut x) (cut y) }
-    ensures { let plan = seen.entry.sheet.plan in
-        result ≡ gathered_of (under_of (lay plan.shape (L.held seen.entry.sheet.layer)) plan.shape.plane (plane_of seen.entry.raw.now seen.entry.pitch) x y) ring }
+fn gathered_at<L: Lent>(seen: &Seen<L>, x: f32, y: f32, ring: Ring) -> Ring
+    requires { Inside seen.now.sheet.plan (cut x) (cut y) }
+    ensures { let plan = seen.now.sheet.plan in
+        result ≡ gathered_of (under_of (lay plan.shape (L.held seen.now.sheet.layer)) plan.shape.plane (plane_of seen.now.raw.now seen.now.pitch) x y) ring }
 {
     let plan = seen.sheet.plan;
     let across = sample::between(x, plan.across);
@@ -61,10 +61,10 @@ fn gathered_at<L: Lent>(seen: Seen<L>, x: f32, y: f32, ring: Ring) -> Ring
 }
 
 // Point `side` of a ring more; 4 is the middle and no point of it.
-fn ring_step<L: Lent>(seen: Seen<L>, circle: Circle, side: usize, ring: Ring) -> Ring
+fn ring_step<L: Lent>(seen: &Seen<L>, circle: Circle, side: usize, ring: Ring) -> Ring
     requires { side < 9 }
-    ensures { let plan = seen.entry.sheet.plan in
-        result ≡ stepped (lay plan.shape (L.held seen.entry.sheet.layer)) plan.shape.plane (plane_of seen.entry.raw.now seen.entry.pitch) circle.x circle.y circle.radius side ring }
+    ensures { let plan = seen.now.sheet.plan in
+        result ≡ stepped (lay plan.shape (L.held seen.now.sheet.layer)) plan.shape.plane (plane_of seen.now.raw.now seen.now.pitch) circle.x circle.y circle.radius side ring }
 {
     if side == 4 {
         return ring;
@@ -76,9 +76,9 @@ fn ring_step<L: Lent>(seen: Seen<L>, circle: Circle, side: usize, ring: Ring) ->
 
 // The points of a ring, row by row.
 #[tactic(auto, unfolding(rules::specs::Forms::turns, crate::specs::Rings::ring_up_to))]
-fn ring_around<L: Lent>(seen: Seen<L>, circle: Circle) -> Ring
-    ensures { let plan = seen.entry.sheet.plan in
-        result ≡ ring_up_to (lay plan.shape (L.held seen.entry.sheet.layer)) plan.shape.plane (plane_of seen.entry.raw.now seen.entry.pitch) circle.x circle.y circle.radius 9 }
+fn ring_around<L: Lent>(seen: &Seen<L>, circle: Circle) -> Ring
+    ensures { let plan = seen.now.sheet.plan in
+        result ≡ ring_up_to (lay plan.shape (L.held seen.now.sheet.layer)) plan.shape.plane (plane_of seen.now.raw.now seen.now.pitch) circle.x circle.y circle.radius 9 }
 {
     let mut grown = Ring {
         total: 0.0,
@@ -91,27 +91,13 @@ fn ring_around<L: Lent>(seen: Seen<L>, circle: Circle) -> Ring
 }
 
 // The ring at so many times the radius.
-fn ring<L: Lent>(seen: Seen<L>, x: f32, y: f32, times: usize) -> Ring
+fn ring<L: Lent>(seen: &Seen<L>, x: f32, y: f32, times: usize) -> Ring
     requires { times ≤ 3 }
-    ensures { let plan = seen.entry.sheet.plan in
-        result ≡ ring_of (lay plan.shape (L.held seen.entry.sheet.layer)) plan.shape.plane (plane_of seen.entry.raw.now seen.entry.pitch) x y times }
+    ensures { let plan = seen.now.sheet.plan in
+        result ≡ ring_of (lay plan.shape (L.held seen.now.sheet.layer)) plan.shape.plane (plane_of seen.now.raw.now seen.now.pitch) x y times }
 {
     let radius = 4.0 / float::of_size(seen.sheet.plan.span) * float::of_size(times);
     ring_around(seen, Circle { x, y, radius })
-}
-
-// A raw value filled from the first ring with any.
-fn rings<L: Lent>(seen: Seen<L>, x: f32, y: f32, value: f32) -> Scene
-    ensures { let plan = seen.entry.sheet.plan in
-        result ≡ filled_of (lay plan.shape (L.held seen.entry.sheet.layer)) plan.shape.plane (plane_of seen.entry.raw.now seen.entry.pitch) x y (Scene.Raw value) }
-{
-    for times in 1..=3 {
-        let ring = ring(seen, x, y, times);
-        if let Some(mean) = scene_lift::mean(ring) {
-            return Scene::Lifted(mean);
-        }
-    }
-    Scene::Raw(value)
 }
 
 // A scene value, filled if it is raw.
@@ -122,6 +108,6 @@ pub fn filled<L: Lent>(seen: Seen<L>, x: f32, y: f32, scene: Scene) -> Scene
 {
     match scene {
         Scene::Lifted(_) => scene,
-        Scene::Raw(value) => rings(seen, x, y, value),
+        Scene::Raw(value) => scene_lift::filled(|times| ring(&seen, x, y, times), value),
     }
 }
