@@ -17,7 +17,7 @@ use Rattle.rules.specs.Forms.{turns, all, cells, is_number}
 use Rattle.rules.specs.Refusals.{empty_refusal}
 use Rattle.laws.proofs.Accepted.{cells_in}
 use Rattle.layer_lent.specs.declared.Shape.{Shape}
-use Rattle.layer_lent.specs.Lent.{lay, plan_of, Held}
+use Rattle.layer_lent.specs.Lent.{lay, plan_of, Sound, Held}
 use Rattle.layer_refuse.proofs.Accepted.{accepted}
 use Rattle.empty.specs.Marks.{InRows}
 
@@ -40,17 +40,12 @@ all_false (suc n) k test below e =
     and_false true = refl
     and_false false = refl
 
--- the rows of cells of a layer that is not refused
-pub in_rows : (s : Shape) (held : Held) → s.plane ≡ 0 → empty_refusal (lay s held) ≡ 0 → InRows (plan_of s) (held 2) (cells s.width) (cells s.height)
+-- the rows of cells of a layer that is not refused, which can be read
+pub in_rows : (s : Shape) (held : Held) → s.plane ≡ 0 → empty_refusal (lay s held) ≡ 0 → Sound (plan_of s) held × InRows (plan_of s) (cells s.width) (cells s.height)
 unfolding empty_refusal
 in_rows s held luma e =
     let sound = (accepted s held [] [] (rw luma e)).sound in
     let f = sound.planned.formed in
     let w = cells_in s.width s.ratio f.ratio.1 f.whole_across in
     let pitch = f.chroma_pitch in
-    record {
-      planned = sound.planned;
-      long = sound.second_long;
-      wide = omega arith;
-      tall = cells_in s.height s.ratio f.ratio.1 f.whole_down;
-    }
+    (sound, record { wide = omega arith; tall = cells_in s.height s.ratio f.ratio.1 f.whole_down })
