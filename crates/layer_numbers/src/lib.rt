@@ -55,20 +55,10 @@ pub fn luma_gain<L: Lent>(sheet: Sheet<L>, x: usize, y: usize) -> Gain
     gain(sheet.layer, plane::place(y, sheet.plan.shape.luma_pitch, x))
 }
 
-// The total of the gains of a pixel that has one.
-fn one<L: Lent>(sheet: Sheet<L>, x: usize, y: usize) -> i32
-    requires inside { Inside sheet.plan x y }
-    requires one { sheet.plan.span ≡ 1 }
-    ensures { Summed sheet.plan (L.held sheet.layer 0) x y result }
-{
-    i32::from(luma_gain(sheet, x, y).0)
-}
-
-// And of one that has more, row by row.
-fn block<L: Lent, const SPAN: usize>(sheet: Sheet<L>, x: usize, y: usize) -> i32
+// The total of a pixel's gains, row by row, by a span that is a constant.
+pub fn block<L: Lent, const SPAN: usize>(sheet: Sheet<L>, x: usize, y: usize) -> i32
     requires inside { Inside sheet.plan x y }
     requires same { sheet.plan.span ≡ SPAN }
-    requires more { SPAN ≡ 1 → ⊥ }
     ensures { Summed sheet.plan (L.held sheet.layer 0) x y result }
 {
     let mut sum = 0;
@@ -79,28 +69,13 @@ fn block<L: Lent, const SPAN: usize>(sheet: Sheet<L>, x: usize, y: usize) -> i32
     sum
 }
 
-// And of either, by a span that is a constant.
-pub fn one_or_four<L: Lent, const SPAN: usize>(sheet: Sheet<L>, x: usize, y: usize) -> i32
-    requires inside { Inside sheet.plan x y }
-    requires same { sheet.plan.span ≡ SPAN }
-    requires few { SPAN ≤ 2 }
-    ensures { Summed sheet.plan (L.held sheet.layer 0) x y result }
-{
-    if SPAN == 1 {
-        one(sheet, x, y)
-    } else {
-        block::<L, 2>(sheet, x, y)
-    }
-}
-
-// The total of a pixel's gains.
-// Kept: through `one_or_four` peel's rings of chroma, when measured, took twice as long.
+// And by the plan's.
 pub fn gains<L: Lent>(sheet: Sheet<L>, x: usize, y: usize) -> i32
     requires { Inside sheet.plan x y }
     ensures { Summed sheet.plan (L.held sheet.layer 0) x y result }
 {
     match sheet.plan.span {
-        1 => one(sheet, x, y),
+        1 => block::<L, 1>(sheet, x, y),
         2 => block::<L, 2>(sheet, x, y),
         _ => block::<L, 4>(sheet, x, y),
     }

@@ -46,7 +46,7 @@ pub fn texel_of<L: Lent>(sheet: Sheet<L>, x: usize, y: usize, total: i32) -> Mod
     }
 }
 
-// The model of a pixel that has one gain or four: a straight line, compiled for each plane and span.
+// The model of a pixel, in a straight line that is compiled for each plane and span.
 pub fn straight<L: Lent, const LUMA: bool, const SPAN: usize>(
     sheet: Sheet<L>,
     x: usize,
@@ -54,13 +54,12 @@ pub fn straight<L: Lent, const LUMA: bool, const SPAN: usize>(
 ) -> Model
     requires inside { Inside sheet.plan x y }
     requires fixed { Fixed sheet.plan LUMA SPAN }
-    requires few { SPAN ≤ 2 }
     ensures { result ≡ texel_of (lay sheet.plan.shape (L.held sheet.layer)) sheet.plan.shape.plane x y }
 {
     if LUMA {
         return luma_model(sheet, x, y);
     }
-    let total = layer_numbers::one_or_four::<L, SPAN>(sheet, x, y);
+    let total = layer_numbers::block::<L, SPAN>(sheet, x, y);
     chroma_model(sheet, SPAN, x, y, total)
 }
 

@@ -1,5 +1,5 @@
 -- `layer_numbers::block` meets its contract. Assumes nothing.
-use mathlib.Core.Path.{◌≡◌, sym, ◌∙◌}
+use mathlib.Core.Path.{◌≡◌}
 use native.Mathlib.Omega.{arith}
 use mir.Syntax.{w32}
 use Rattle.layer_lent.proofs.Signed.{back}
@@ -26,7 +26,6 @@ loop-dy-preserved g c =
 
 pub returns : goal.returns
 returns g c =
-    let h = c.requires in
     let s = c.args.sheet in
     let e : c.loop-dy.dy ≡ g.row.SPAN = omega arith in
-    of_block s.plan s.sound.planned _ _ _ _ (λ one. h.more (sym h.same ∙ one)) (rw h.same (rw e at c.loop-dy.invariant))
+    of_block s.plan s.sound.planned _ _ _ _ (rw c.requires.same (rw e at c.loop-dy.invariant))
