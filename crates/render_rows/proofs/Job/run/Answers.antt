@@ -1,18 +1,17 @@
--- What is left to answer of `render_rows::render_run`'s goals.
+-- What is left to answer of `render_rows::Job::run`'s goals.
 use mathlib.Core.Path.{◌∙◌}
 use native.Mathlib.Nat.{le_antisymm}
 use native.Mathlib.Omega.{arith}
 use mir.Facts.{to_z-of_z}
 use Rattle.render_rows.proofs.Runs.{run_join, part_asks}
 use Rattle.render_rows.proofs.Changes.{near_part}
-use Rattle.render_rows.proofs.render_run.Goals as goal
+use Rattle.render_rows.proofs.Job.run.Goals as goal
 
-pub render_pixel-last-requires : goal.render_pixel-last-requires
-render_pixel-last-requires g c =
+pub pixel-run-requires : goal.pixel-run-requires
+pixel-run-requires g c =
     let inv = c.loop-x.invariant in
     let below = c.loop-x-test.true in
     record {
-      works = c.requires.works;
       room = part_asks _ _ _ _ (omega arith) c.requires.room c.loop-x.auto.x (omega arith) inv.1 inv.0.row.few;
       holds = record { rows = c.requires.holds.rows; holds = inv.0.holds };
       near = rw (to_z-of_z c.ranges.distance) (near_part _ _ c.requires.near c.loop-x.auto.x (omega arith));
@@ -20,7 +19,7 @@ render_pixel-last-requires g c =
 
 pub loop-x-preserved : goal.loop-x-preserved
 loop-x-preserved g c =
-    let done = c.render_pixel-last in
+    let done = c.pixel-run in
     let inv = c.loop-x.invariant in (
       record { row = run_join c.loop-x.auto.x (omega arith) inv.0.row done.ensures.row; holds = done.ensures.holds },
       done.auto.output ∙ inv.1,

@@ -1,15 +1,15 @@
--- What is left to answer of `render_rows::render_change`'s goals.
+-- What is left to answer of `render_rows::Job::change`'s goals.
 use mir.Syntax.{w32}
 use mir.Facts.{to_z-of_z}
 use Rattle.layer_lent.proofs.Signed.{back}
 use Rattle.rules.specs.Reading.{gap}
 use Rattle.render_rows.proofs.Changes.{put_is, keep_is}
-use Rattle.render_rows.proofs.render_change.Goals as goal
+use Rattle.render_rows.proofs.Job.change.Goals as goal
 
 pub composed-requires : goal.composed-requires
 unfolding gap
 composed-requires g c =
-    record { framed = c.requires.framed; inside = c.requires.inside; near = rw (c.near-near.ensures, to_z-of_z c.ranges.distance, c.requires.distance) }
+    record { inside = c.requires.inside; near = rw (c.near-near.ensures, to_z-of_z c.ranges.distance, c.requires.distance) }
 
 pub returns-then-reached : goal.returns-then-reached
 unfolding gap

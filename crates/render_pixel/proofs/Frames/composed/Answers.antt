@@ -1,13 +1,13 @@
--- What is left to answer of `render_pixel::composed`'s goals.
+-- What is left to answer of `render_pixel::Frames::composed`'s goals.
 use mathlib.Core.Path.{ap}
 use native.Mathlib.Omega.{arith}
 use mir.Facts.{to_z-of_z}
 use Rattle.rules.specs.Float.{pixel}
 use Rattle.rules.specs.Peel.{layered}
 use Rattle.render_pixel.specs.Shown.{byte_by}
-use Rattle.layer_lent.specs.Lent.{frames_by}
+use Rattle.render_pixel.specs.Framed.{frames_of}
 use Rattle.render_pixel.proofs.Own.{base_is, kept_is, laid_is}
-use Rattle.render_pixel.proofs.composed.Goals as goal
+use Rattle.render_pixel.proofs.Frames.composed.Goals as goal
 
 pub returns-then-kept : goal.returns-then-kept
 unfolding byte_by layered
@@ -34,7 +34,8 @@ returns g c =
       c.requires.near,
     ) at c.if-kept.false in
     let i = c.requires.inside in
-    let p = c.requires.framed.first_ready.sound.planned in
+    let f = c.args.self.now in
+    let p = f.sheet.sound.planned in
     rw (
       c.pixel-2.ensures,
       c.seen-scene.ensures,
@@ -43,7 +44,7 @@ returns g c =
       c.at-early.ensures,
       c.texel-model.ensures,
       to_z-of_z c.ranges.algo,
-      base_is _ _ (frames_by c.args.plan.shape c.args.frames) c.args.spot.x c.args.spot.y
-          (omega (arith, i.left, p.wide)) (omega (arith, i.above, p.tall)) c.requires.framed.first_small c.requires.framed.second_small,
+      base_is _ _ (frames_of f) c.args.spot.x c.args.spot.y
+          (omega (arith, i.left, p.wide)) (omega (arith, i.above, p.tall)) f.first_small f.second_small,
     )
     (ap pixel (laid_is _ _ _ _ _ _ t))
