@@ -64,7 +64,8 @@ pub fn luma_texel(gain: Gain, offset: Offset) -> Model
 }
 
 // And of a chroma pixel's: the total of its gains, and its offset.
-// Kept: two bodies, as the rules have two definitions: luma's gain is a stored one, chroma's a mean.
+// Kept: (d) two bodies beside each other, as the rules have two definitions: luma's gain is a stored one, chroma's a
+// mean, and one body for both would ask which plane it is.
 #[tactic(auto, unfolding(rules::specs::Reading::chroma_texel))]
 pub fn chroma_texel(total: i32, span: usize, offset: Offset) -> Model
     requires small { nat_abs total ≤ 524288 }

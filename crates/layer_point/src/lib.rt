@@ -1,13 +1,13 @@
 // A layer's model at a point, by the columns and rows around it.
 #![tactic(auto)]
 
-ghost use Rattle.std.specs.Prelude.{◌≡◌, ℕ, ◌*◌};
+ghost use Rattle.std.specs.Prelude.{◌≡◌, ℕ};
 ghost use Rattle.rules.specs.Reading.{mix_models, texel as texel_of};
-ghost use Rattle.layer_lent.specs.Lent.{lay, Inside};
+ghost use Rattle.layer_lent.specs.Lent.{lay};
 ghost use Rattle.layer_point.specs.Points.{Gives, Readable, Around, row_of, point_of};
 
 use layer_lent::{Lent, Sheet};
-use rules::{Gain, Model, Offset, Taps};
+use rules::{Model, Taps};
 
 // Two models, mixed by a share.
 fn mix_models(one: Model, other: Model, share: f32) -> Model
@@ -43,34 +43,19 @@ fn point<F: Fn(usize, usize) -> Model + Copy>(read: F, across: Taps, down: Taps)
     mix_models(upper, lower, down.share)
 }
 
-// The model of a luma pixel, whose offset stands `shift` after its gain.
-// Kept: `layer_texel::straight` is no plainer here, and finds the offset's row anew for each pixel.
-fn luma_at<L: Lent>(sheet: Sheet<L>, shift: usize, x: usize, y: usize) -> Model
-    requires inside { Inside sheet.plan x y }
-    requires luma { sheet.plan.shape.plane ≡ 0 }
-    requires shifted { shift ≡ sheet.plan.shape.height * sheet.plan.shape.luma_pitch }
-    ensures { result ≡ texel_of (lay sheet.plan.shape (L.held sheet.layer)) sheet.plan.shape.plane x y }
-{
-    let k = plane::place(y, sheet.plan.shape.luma_pitch, x);
-    layer_model::luma_texel(
-        Gain(sheet.layer.entry(0, k)),
-        Offset(sheet.layer.entry(0, k + shift)),
-    )
-}
-
-// The model at a point: luma's offset is found by its gain, and chroma at ratio 2 is read in straight lines.
+// The model at a point: luma and chroma at ratio 2 are read in straight lines.
+#[tactic(auto, using(layer_lent::proofs::Plans::one_of))]
 pub fn model_by<L: Lent>(sheet: Sheet<L>, across: Taps, down: Taps) -> Model
     requires { Around sheet.plan.across sheet.plan.down across down }
     ensures { result ≡ point_of (texel_of (lay sheet.plan.shape (L.held sheet.layer)) sheet.plan.shape.plane) across down }
 {
-    let plan = sheet.plan;
-    if plan.shape.plane == 0 {
-        let shift = plane::place(plan.shape.height, plan.shape.luma_pitch, 0);
-        return point(|x, y| luma_at(sheet, shift, x, y), across, down);
+    if sheet.plan.shape.plane == 0 {
+        let luma = |x, y| layer_texel::straight::<L, true, 1>(sheet, x, y);
+        return point(luma, across, down);
     }
-    if plan.span == 2 {
-        let straight = |x, y| layer_texel::straight::<L, false, 2>(sheet, x, y);
-        return point(straight, across, down);
+    if sheet.plan.span == 2 {
+        let chroma = |x, y| layer_texel::straight::<L, false, 2>(sheet, x, y);
+        return point(chroma, across, down);
     }
     point(|x, y| layer_texel::texel(sheet, x, y), across, down)
 }
