@@ -51,6 +51,7 @@ pub fn gap(distance: i16) -> f32
 }
 
 // A stored distance whose gap is at most 0.
+#[tactic(auto, using(crate::proofs::Ends::gap_test))]
 pub fn near(distance: i16) -> bool
     ensures { result ≡ (signed distance ⊗ 8·0 ⊖ 8·0 ≼ 0·0) }
 {

@@ -11,6 +11,7 @@ ghost use Rattle.layer_model.specs.Least.{least_of};
 use rules::{Gain, Model, Offset};
 
 // A gain, of the total of span² stored gains. The common divisors are constants, powers of two.
+#[tactic(auto, using(crate::proofs::Fifth::scale_four, layer_numbers::proofs::Texels::scale_one))]
 fn gain_of(total: i32, span: usize) -> f32
     requires small { nat_abs total ≤ 524288 }
     requires few { span ≤ 4 }
@@ -42,6 +43,7 @@ fn least(span: usize) -> u32
 }
 
 // A gain of 0.2 or more, by size.
+#[tactic(auto, using(crate::proofs::Fifth::fifth_test))]
 pub fn strong(total: i32, span: usize) -> bool
     requires small { nat_abs total ≤ 524288 }
     requires some { 1 ≤ span }

@@ -1,5 +1,5 @@
 -- The gain of a pixel's texel, by the whole total of its stored gains. Assumes nothing.
-use mathlib.Core.Path.{◌≡◌, refl, ap, ◌∙◌}
+use mathlib.Core.Path.{◌≡◌, refl, sym, ap, ◌∙◌}
 use mathlib.Core.Bool.{Bool, true, false, cond}
 use mathlib.Core.List.{List}
 use Prim.Native.Nat.{ℕ, suc, ◌+◌, ◌-◌, ◌*◌, ◌≤◌}
@@ -55,9 +55,9 @@ block_is l plane span x y r e done = go (eqb plane 0) refl e
     go true t e = rw e (luma_block l plane x y r t (rw e at done))
     go false t e = rw e (chroma_block l plane x y r t (rw e at done))
 
-pub of_block : (p : Plan) → Planned p → (luma : List ℤ) (x y : ℕ) (r : ℤ) → BlockSummed luma p.shape.luma_pitch p.span x y p.span r → Summed p luma x y r
-of_block p h luma x y r done =
+pub of_block : (p : Plan) → Planned p → (luma : List ℤ) (span x y : ℕ) (r : ℤ) → p.span ≡ span → BlockSummed luma p.shape.luma_pitch span x y span r → Summed p luma x y r
+of_block p h luma span x y r same done =
     record {
-      is = λ f g. block_is _ _ _ _ _ _ (span_is p h) done;
-      small = omega (arith, done.small, h.span);
+      is = λ f g. rw same (block_is _ _ _ _ _ _ (sym same ∙ span_is p h) done);
+      small = omega (arith, done.small, h.span, same);
     }

@@ -27,6 +27,7 @@ fn added<L: Lent>(layer: L, k: usize, total: i32) -> i32
 }
 
 // A row of a pixel's gains, added to a total. The span is a constant: the loops are unrolled.
+#[tactic(auto, using(crate::proofs::Sums::row_none, crate::proofs::Sums::row_more))]
 fn gain_row<L: Lent, const SPAN: usize>(
     layer: L,
     row: usize,
@@ -56,6 +57,7 @@ pub fn luma_gain<L: Lent>(sheet: Sheet<L>, x: usize, y: usize) -> Gain
 }
 
 // The total of a pixel's gains, row by row, by a span that is a constant.
+#[tactic(auto, using(crate::proofs::Sums::block_none, crate::proofs::Sums::block_more, crate::proofs::Places::row_fits))]
 pub fn block<L: Lent, const SPAN: usize>(sheet: Sheet<L>, x: usize, y: usize) -> i32
     requires inside { Inside sheet.plan x y }
     requires same { sheet.plan.span ≡ SPAN }

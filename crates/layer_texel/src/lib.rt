@@ -22,6 +22,7 @@ fn luma_model<L: Lent>(sheet: Sheet<L>, x: usize, y: usize) -> Model
 }
 
 // The model of a chroma pixel with this total of gains. The span is the plan's, so that it can be a constant.
+#[tactic(auto, using(crate::proofs::Models::chroma_is))]
 fn chroma_model<L: Lent>(sheet: Sheet<L>, span: usize, x: usize, y: usize, total: i32) -> Model
     requires inside { Inside sheet.plan x y }
     requires chroma { sheet.plan.shape.plane ≡ 0 → ⊥ }
