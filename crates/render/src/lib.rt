@@ -5,7 +5,7 @@ ghost use Rattle.std.specs.Prelude.{◌≡◌, [], ◌∷◌, ℤ};
 ghost use Rattle.rules.specs.Refusals.{render_refusal, numbered};
 ghost use Rattle.render.specs.Call.{render_by, Rendered};
 
-use layer_lent::{Lent, Shape, Sheet};
+use layer_lent::{Lent, Seen, Shape, Sheet};
 use motion::{Grid, Lattice, Motion};
 use render_pixel::Frames;
 use render_rows::Job;
@@ -51,9 +51,16 @@ pub fn render<'o, 'f, 'm, L: Lent>(
     let motion = Motion { fields, lattice };
     let sheet = Sheet { layer, plan };
     let frames = Frames {
-        sheet,
-        first,
-        second,
+        first: Seen {
+            sheet,
+            raw: first,
+            pitch: shape.first_pitch,
+        },
+        second: Seen {
+            sheet,
+            raw: second,
+            pitch: shape.second_pitch,
+        },
     };
     let job = Job {
         frames,

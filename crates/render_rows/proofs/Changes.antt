@@ -1,8 +1,9 @@
 -- What is done to a pixel by its gap and its steps is what the rule says. Assumes nothing.
 use mathlib.Core.Path.{◌≡◌, sym, ap, ◌∙◌}
 use mathlib.Core.Bool.{Bool, true, false}
-use Prim.Native.Nat.{ℕ, ◌+◌, ◌*◌, ◌/◌, ◌≤◌, ◌<◌}
+use Prim.Native.Nat.{ℕ, ◌+◌, ◌-◌, ◌*◌, ◌/◌, ◌≤◌, ◌<◌, min}
 use native.Mathlib.Nat.{add-mul, add-div_right}
+use Rattle.std.proofs.lemmas.Nat.{div-mul-add}
 use native.Mathlib.Omega.{arith}
 use lib.IntN.{ℤ}
 use lib.Ieee.{Float}
@@ -66,7 +67,7 @@ module _ {X : Type 0} {L : Ghosts X} (j : Job X L) where
   pixel_is x y old d down c t s near rows carries mixed so =
       let p = plan_in j in
       let m = motion_in j in
-      let ratio = span_is p j.frames.sheet.sound.planned in
+      let ratio = span_is p j.frames.first.sheet.sound.planned in
       let moved = mixed ∙ carried_steps m j.motion.lattice.ratio x y c (rw rows at carries) ∙ ap (λ (r : ℕ). steps m r x y) (j.span ∙ ratio) in
       let near = gap-far x y d true (near.one x (omega arith) (omega arith)) near.near in
       change_is (layer_in j) p.shape.plane (frames_of j.frames) m j.algo x y old p.span s ratio (so ∙ ap (timed p.shape.time) moved) near
@@ -87,6 +88,17 @@ pub cell_one : (p : Plan) → Planned p → (held : Held) (y from to : ℕ) (d :
 unfolding distance
 cell_one p h held y from to d cell is k low high = rw (is, rw h.is at (cell.same k low high))
 
--- the cell after the one that begins at column x
-pub next_begins : (side x : ℕ) → 0 < side → x / side * side ≡ x → (x + side) / side * side ≡ x + side
-next_begins side x some begins = rw (add-div_right x some) (omega (arith, add-mul (x / side) 1 side, begins))
+-- a cell that begins at column x: its end, or the plane's, and where the next one begins
+module _ (side x : ℕ) (some : 0 < side) (begins : x / side * side ≡ x) where
+  pub cell_ends : (size : ℕ) → x < size → CellEnd x side size (min (x + side) size)
+  cell_ends size inside =
+      record {
+        ahead = omega arith;
+        within = omega arith;
+        same = λ j low high.
+            let e : j ≡ x / side * side + (j - x) = omega (arith, begins) in
+            ap (λ (k : ℕ). k / side) e ∙ div-mul-add (x / side) side (j - x) (omega arith);
+      }
+
+  pub next_begins : (x + side) / side * side ≡ x + side
+  next_begins = rw (add-div_right x some) (omega (arith, add-mul (x / side) 1 side, begins))

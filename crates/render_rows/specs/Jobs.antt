@@ -28,7 +28,7 @@ abbrev pub layer_in : {X : Type 0} {L : Ghosts X} → Job X L → Layer
 layer_in j = layer_of j.frames
 
 abbrev pub plan_in : {X : Type 0} {L : Ghosts X} → Job X L → Plan
-plan_in j = j.frames.sheet.plan
+plan_in j = j.frames.first.sheet.plan
 
 -- its motion
 abbrev pub motion_in : {X : Type 0} {L : Ghosts X} → Job X L → Motion

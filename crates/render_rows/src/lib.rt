@@ -17,7 +17,7 @@ pub struct Job<'f, 'm, L: Lent> {
     pub motion: Motion<'m>,
     pub algo: i32,
     pub far: f32,
-    pub ghost span: { motion.lattice.ratio ≡ frames.sheet.plan.span },
+    pub ghost span: { motion.lattice.ratio ≡ frames.first.sheet.plan.span },
     pub ghost far_is: { far ≡ far_of (motion_of motion.fields motion.lattice.grid) },
 }
 
@@ -52,11 +52,11 @@ impl<L: Lent> Job<'_, '_, L> {
 
     // What is done to a pixel that moves by these steps.
     fn change(&self, steps: Steps, distance: i16, spot: Spot) -> Option<u8>
-        requires inside { Inside self.now.frames.sheet.plan spot.x spot.y }
+        requires inside { Inside self.now.frames.first.sheet.plan spot.x spot.y }
         requires distance { distance ≡ distance_in self.now spot.x spot.y }
         ensures { result ≡ change_in self.now steps spot.x spot.y }
     {
-        let span = self.frames.sheet.plan.span;
+        let span = self.frames.first.sheet.plan.span;
         if render_choice::reached(layer_cell::gap(distance), span, steps) {
             let near = layer_cell::near(distance);
             let algo = self.choice();
@@ -73,7 +73,7 @@ impl<L: Lent> Job<'_, '_, L> {
         requires near { PieceNear self.now (only down spot) distance }
         ensures { PieceDone self.now (only down spot) run.count output.old output.new result }
     {
-        let shape = self.frames.sheet.plan.shape;
+        let shape = self.frames.first.sheet.plan.shape;
         let carried = self.motion.carry(down, run.carried, spot.x);
         let steps = render_choice::timed(shape.time, motion::steps_of(carried));
         let change = self.change(steps, distance, spot);
@@ -101,10 +101,10 @@ impl<L: Lent> Job<'_, '_, L> {
     fn cell(&self, output: &mut [u8], start: Run, piece: Piece) -> Run
         requires room { PieceAsks self.now output.old piece start.count }
         requires holds { PieceHolds self.now piece start }
-        requires cell { CellEnd piece.from self.now.frames.sheet.plan.side self.now.frames.sheet.plan.across piece.to }
+        requires cell { CellEnd piece.from self.now.frames.first.sheet.plan.side self.now.frames.first.sheet.plan.across piece.to }
         ensures { PieceDone self.now piece start.count output.old output.new result }
     {
-        let distance = layer_cell::distance(self.frames.sheet, piece.from, piece.y);
+        let distance = layer_cell::distance(self.frames.first.sheet, piece.from, piece.y);
         if render_choice::within(layer_cell::gap(distance), self.far) {
             self.run(output, start, distance, piece)
         } else {
@@ -114,11 +114,11 @@ impl<L: Lent> Job<'_, '_, L> {
 
     // The cells of a row, one after the other.
     fn cells(&self, output: &mut [u8], down: Taps, start: Run, y: usize) -> usize
-        requires room { RowAsks self.now.frames.sheet.plan output.old y start.count }
+        requires room { RowAsks self.now.frames.first.sheet.plan output.old y start.count }
         requires holds { Holding self.now y down start }
         ensures { RowIn self.now y start.count output.old output.new result }
     {
-        let plan = self.frames.sheet.plan;
+        let plan = self.frames.first.sheet.plan;
         let mut run = start;
         for x in (0..plan.across).step_by(plan.side) {
             let piece = Piece {
@@ -134,7 +134,7 @@ impl<L: Lent> Job<'_, '_, L> {
 
     // One row: the grid's rows around it are found once.
     fn row(&self, output: &mut [u8], count: usize, y: usize) -> usize
-        requires { RowAsks self.now.frames.sheet.plan output.old y count }
+        requires { RowAsks self.now.frames.first.sheet.plan output.old y count }
         ensures { RowIn self.now y count output.old output.new result }
     {
         let Motion { fields, lattice } = self.motion;
@@ -156,11 +156,11 @@ impl<L: Lent> Job<'_, '_, L> {
 
     // All rows.
     pub fn rows(&self, output: &mut [u8]) -> usize
-        requires { RowsAsk self.now.frames.sheet.plan output.old }
+        requires { RowsAsk self.now.frames.first.sheet.plan output.old }
         ensures { RowsIn self.now output.old output.new result }
     {
         let mut count = 0;
-        for y in 0..self.frames.sheet.plan.down {
+        for y in 0..self.frames.first.sheet.plan.down {
             count = self.row(output, count, y);
         }
         count

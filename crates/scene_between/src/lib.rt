@@ -102,12 +102,12 @@ fn ring<L: Lent>(seen: &Seen<L>, x: f32, y: f32, times: usize) -> Ring
 
 // A scene value, filled if it is raw.
 #[tactic(auto, unfolding(rules::specs::Scene::filled))]
-pub fn filled<L: Lent>(seen: Seen<L>, x: f32, y: f32, scene: Scene) -> Scene
-    ensures { let plan = seen.entry.sheet.plan in
-        result ≡ filled_of (lay plan.shape (L.held seen.entry.sheet.layer)) plan.shape.plane (plane_of seen.entry.raw.now seen.entry.pitch) x y scene }
+pub fn filled<L: Lent>(seen: &Seen<L>, x: f32, y: f32, scene: Scene) -> Scene
+    ensures { let plan = seen.now.sheet.plan in
+        result ≡ filled_of (lay plan.shape (L.held seen.now.sheet.layer)) plan.shape.plane (plane_of seen.now.raw.now seen.now.pitch) x y scene }
 {
     match scene {
         Scene::Lifted(_) => scene,
-        Scene::Raw(value) => scene_lift::filled(|times| ring(&seen, x, y, times), value),
+        Scene::Raw(value) => scene_lift::filled(|times| ring(seen, x, y, times), value),
     }
 }

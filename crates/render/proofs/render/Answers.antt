@@ -1,4 +1,5 @@
 -- What is left to answer of `render::render`'s goals: where the call is not refused, no row of the table fits.
+use mathlib.Core.Path.{refl}
 use mathlib.Core.List.{[], ◌∷◌}
 use native.Mathlib.Omega.{arith}
 use mir.Facts.{to_z-of_z}
@@ -40,9 +41,19 @@ pub invariant_of-frames : goal.invariant_of-frames
 invariant_of-frames g c =
     let a = c.args in
     let r = runs a.shape (g.L.Lent.held a.layer) (a.first ∷ a.second ∷ []) a.fields a.output.now a.grid a.algo (c.in_ok-tested.ensures a.algo) in
+    rw c.planned-plan.ensures (record { lies = r.first_lies })
+
+pub invariant_of-frames-2 : goal.invariant_of-frames-2
+invariant_of-frames-2 g c =
+    let a = c.args in
+    let r = runs a.shape (g.L.Lent.held a.layer) (a.first ∷ a.second ∷ []) a.fields a.output.now a.grid a.algo (c.in_ok-tested.ensures a.algo) in
+    rw c.planned-plan.ensures (record { lies = r.second_lies })
+
+pub invariant_of-frames-3 : goal.invariant_of-frames-3
+invariant_of-frames-3 g c =
     record {
-      first_lies = rw c.planned-plan.ensures r.first_lies;
-      second_lies = rw c.planned-plan.ensures r.second_lies;
+      layer = refl;
+      plan = refl;
       first_small = λ k. omega (arith, c.type_inv.first k);
       second_small = λ k. omega (arith, c.type_inv.second k);
     }

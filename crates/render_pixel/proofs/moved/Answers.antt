@@ -9,9 +9,9 @@ pub returns : goal.returns
 unfolding moved_of scene under
 returns g c =
     let a = c.args in
-    let p = a.seen.sheet.plan in
-    let h = a.seen.sheet.sound.planned in
-    let l = lay p.shape (g.L.Lent.held a.seen.sheet.layer) in
+    let p = a.seen.now.sheet.plan in
+    let h = a.seen.now.sheet.sound.planned in
+    let l = lay p.shape (g.L.Lent.held a.seen.now.sheet.layer) in
     let wide = across_is p h in
     let tall = down_is p h in
     rw (

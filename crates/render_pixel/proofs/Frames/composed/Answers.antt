@@ -35,7 +35,7 @@ returns g c =
     ) at c.if-kept.false in
     let i = c.requires.inside in
     let f = c.args.self.now in
-    let p = f.sheet.sound.planned in
+    let p = f.first.sheet.sound.planned in
     rw (
       c.pixel-2.ensures,
       c.seen-scene.ensures,

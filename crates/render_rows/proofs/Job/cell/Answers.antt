@@ -9,14 +9,14 @@ use Rattle.render_rows.proofs.Job.cell.Goals as goal
 pub run-requires : goal.run-requires
 run-requires g c =
     let d = c.distance-distance.result in
-    let h = c.args.self.now.frames.sheet.sound.planned in
+    let h = c.args.self.now.frames.first.sheet.sound.planned in
     let e = back w16 d c.distance-distance.type_inv in
     let a = c.args in
     record {
       room = c.requires.room;
       holds = c.requires.holds;
       near = rw e (record {
-        one = cell_one _ h (g.L.Lent.held a.self.now.frames.sheet.layer) a.piece.y _ _ d c.requires.cell c.distance-distance.ensures;
+        one = cell_one _ h (g.L.Lent.held a.self.now.frames.first.sheet.layer) a.piece.y _ _ d c.requires.cell c.distance-distance.ensures;
         near = rw (c.within.ensures, c.gap.ensures, e) at c.if-within.true;
       });
     }
@@ -24,10 +24,10 @@ run-requires g c =
 pub returns-else-within : goal.returns-else-within
 returns-else-within g c =
     let d = c.distance-distance.result in
-    let h = c.args.self.now.frames.sheet.sound.planned in
+    let h = c.args.self.now.frames.first.sheet.sound.planned in
     let far = rw (c.within.ensures, c.gap.ensures, back w16 d c.distance-distance.type_inv) at c.if-within.false in
     let a = c.args in
-    let one = cell_one _ h (g.L.Lent.held a.self.now.frames.sheet.layer) a.piece.y _ _ d c.requires.cell c.distance-distance.ensures in
+    let one = cell_one _ h (g.L.Lent.held a.self.now.frames.first.sheet.layer) a.piece.y _ _ d c.requires.cell c.distance-distance.ensures in
     record {
       row = run_skip _ _ _ _ _ _ _ (omega (arith, c.requires.room.ahead))
           (far_cell a.self.now _ _ _ d one far);

@@ -4,13 +4,19 @@ use Prim.Native.Nat.{◌+◌, zero-le, min}
 use native.Mathlib.Nat.{le_antisymm}
 use native.Mathlib.Omega.{arith}
 use Rattle.render_rows.proofs.Runs.{run_join, run_whole}
-use Rattle.render_rows.proofs.Changes.{next_begins}
+use Rattle.render_rows.proofs.Changes.{cell_ends, next_begins}
 use Rattle.render_rows.proofs.Job.cells.Goals as goal
+
+pub cell-run-requires-clause-cell : goal.cell-run-requires-clause-cell
+cell-run-requires-clause-cell g c =
+    let p = c.args.self.now.frames.first.sheet.plan in
+    let some = c.args.self.now.frames.first.sheet.sound.planned.small in
+    rw c.min.ensures (cell_ends p.side c.loop-x.x (omega (arith, some)) c.loop-x.invariant.2 p.across c.loop-x-test.true)
 
 pub loop-x-preserved : goal.loop-x-preserved
 loop-x-preserved g c =
-    let p = c.args.self.now.frames.sheet.plan in
-    let some = c.args.self.now.frames.sheet.sound.planned.small in
+    let p = c.args.self.now.frames.first.sheet.plan in
+    let some = c.args.self.now.frames.first.sheet.sound.planned.small in
     let x = c.loop-x.x in
     let end : min (x + p.side) p.across ≡ x + p.side = omega arith in
     let done = rw (c.min.ensures, end) at c.cell-run.ensures in
@@ -24,7 +30,7 @@ loop-x-preserved g c =
 -- the last cell
 pub returns-2 : goal.returns-2
 returns-2 g c =
-    let p = c.args.self.now.frames.sheet.plan in
+    let p = c.args.self.now.frames.first.sheet.plan in
     let x = c.loop-x.x in
     let end : min (x + p.side) p.across ≡ p.across = omega arith in
     let done = rw (c.min.ensures, end) at c.cell-run.ensures in

@@ -10,10 +10,10 @@ loop-y-init g c = (rows_none _ _ _ _, refl)
 
 pub row-count-requires : goal.row-count-requires
 row-count-requires g c =
-    let p = c.args.self.now.frames.sheet.plan in
+    let p = c.args.self.now.frames.first.sheet.plan in
     let inv = c.loop-y.invariant in
     let below = c.loop-y-test.true in
-    let h = c.args.self.now.frames.sheet.sound.planned in
+    let h = c.args.self.now.frames.first.sheet.sound.planned in
     let asks = c.requires in
     let room = row_in c.loop-y.y p.down p.shape.output_pitch p.across _ below asks.long in
     record { above = below; narrow = asks.apart.1; room = omega (arith, room, inv.1); few = omega (arith, inv.0.few, below, h.tall) }
@@ -22,5 +22,5 @@ pub loop-y-preserved : goal.loop-y-preserved
 loop-y-preserved g c =
     let done = c.row-count in
     let inv = c.loop-y.invariant in
-    let h = c.args.self.now.frames.sheet.sound.planned in
+    let h = c.args.self.now.frames.first.sheet.sound.planned in
     (rows_more h.wide.1 inv.0 done.ensures, done.auto.output ∙ inv.1)
