@@ -1,13 +1,8 @@
 -- The cells of a layer, as far as they are gone through; and what going through them asks.
-use Rattle.std.specs.Prelude.{Bool, not, List, [], ℕ, ◌≤◌, ◌<◌, ℤ}
+use Rattle.std.specs.Prelude.{Bool, not, ℕ, ◌≤◌, ◌<◌}
 use Rattle.rules.specs.Forms.{Layer, all, is_number}
 use Rattle.rules.specs.Reading.{cell}
 use Rattle.layer_lent.specs.declared.Plan.{Plan}
-use Rattle.layer_lent.specs.Lent.{holding, ChromaLong, Planned}
-
--- a layer, of which the cells are read alone
-abbrev pub celled : Plan → List ℤ → Layer
-celled p marks = holding p.shape [] [] marks
 
 -- the number of this cell is not 0
 abbrev pub unmarked : Layer → (x y : ℕ) → Bool
@@ -21,16 +16,12 @@ row_unmarked l y width = all width (λ x. unmarked l x y)
 abbrev pub rows_unmarked : Layer → (width height : ℕ) → Bool
 rows_unmarked l width height = all height (λ y. row_unmarked l y width)
 
--- so many cells of a row, in a layer that is not refused
-pub record InRow (p : Plan) (marks : List ℤ) (y width : ℕ) : Type 0 where
-  pub planned : Planned p
-  pub long : ChromaLong p marks
+-- so many cells of a row
+pub record InRow (p : Plan) (y width : ℕ) : Type 0 where
   pub wide : width ≤ p.shape.chroma_pitch
   pub above : y < p.rows
 
 -- so many rows of them
-pub record InRows (p : Plan) (marks : List ℤ) (width height : ℕ) : Type 0 where
-  pub planned : Planned p
-  pub long : ChromaLong p marks
+pub record InRows (p : Plan) (width height : ℕ) : Type 0 where
   pub wide : width ≤ p.shape.chroma_pitch
   pub tall : height ≤ p.rows

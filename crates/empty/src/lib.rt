@@ -1,82 +1,53 @@
 // Empty: whether no cell of a layer is marked.
 #![tactic(auto)]
 
-ghost use Rattle.std.specs.Prelude.{◌≡◌, ◌≤◌};
+ghost use Rattle.std.specs.Prelude.{◌≡◌, ◌≤◌, not, eqb};
 ghost use Rattle.rules.specs.Reading.{empty_answer};
 ghost use Rattle.rules.specs.Refusals.{replied};
-ghost use Rattle.layer_lent.specs.Lent.{lay, ChromaLong, Planned};
+ghost use Rattle.layer_lent.specs.Lent.{lay};
 ghost use Rattle.layer_cell.specs.Cells.{CellInside};
-ghost use Rattle.empty.specs.Marks.{celled, unmarked as unmarked_at, row_unmarked, rows_unmarked, InRow, InRows};
+ghost use Rattle.empty.specs.Marks.{row_unmarked, rows_unmarked, InRow, InRows};
 
-use layer_lent::{Lent, Plan, Shape};
+use layer_lent::{Lent, Shape, Sheet};
 use rules::Refusal;
 
-// The number of this cell is not 0.
-fn unmarked<L: Lent>(plan: Plan, layer: L, x: usize, y: usize) -> bool
-    requires planned { Planned plan }
-    requires inside { CellInside plan x y }
-    requires long { ChromaLong plan (L.held layer 2) }
-    ensures { result ≡ unmarked_at (celled plan (L.held layer 2)) x y }
-{
-    layer_cell::number(plan, layer, x, y) != 0
-}
-
-// None of the first eight of a row is 0: a loop of known length, which is compiled to straight lines.
-#[tactic(auto, unfolding(rules::specs::Forms::turns, rules::specs::Forms::all))]
-fn eight_unmarked<L: Lent>(plan: Plan, layer: L, y: usize) -> bool
-    requires { InRow plan (L.held layer 2) y 8 }
-    ensures { result ≡ row_unmarked (celled plan (L.held layer 2)) y 8 }
-{
-    let mut none = true;
-    for x in 0..8 {
-        none = none & unmarked(plan, layer, x, y);
-    }
-    none
-}
-
-// None of a row is 0, if none of those before a column is. The row is gone through to its end: a loop without a branch.
-#[tactic(auto, unfolding(rules::specs::Forms::turns, rules::specs::Forms::all))]
-fn rest_unmarked<L: Lent>(
-    plan: Plan,
-    layer: L,
-    y: usize,
-    width: usize,
-    from: usize,
-    before: bool,
-) -> bool
-    requires row { InRow plan (L.held layer 2) y width }
+// The least of a row's numbers, each taken without its sign, and of those before a column: it is 0 where one of them
+// is. The row is gone through to its end, in a loop without a branch.
+#[tactic(auto, unfolding(rules::specs::Forms::turns, rules::specs::Forms::all), using(crate::proofs::Rows::least_more))]
+fn least<L: Lent>(sheet: Sheet<L>, y: usize, width: usize, from: usize, before: u16) -> u16
+    requires row { InRow sheet.plan y width }
     requires ahead { from ≤ width }
-    requires before { before ≡ row_unmarked (celled plan (L.held layer 2)) y from }
-    ensures { result ≡ row_unmarked (celled plan (L.held layer 2)) y width }
+    requires before { not (eqb before 0) ≡ row_unmarked (lay sheet.plan.shape (L.held sheet.layer)) y from }
+    ensures { not (eqb result 0) ≡ row_unmarked (lay sheet.plan.shape (L.held sheet.layer)) y width }
 {
-    let mut none = before;
+    let mut least = before;
     for x in from..width {
-        none = none & unmarked(plan, layer, x, y);
+        least = least.min(layer_cell::number(sheet, x, y).cast_unsigned());
     }
-    none
+    least
 }
 
-// None of a row is 0. The loop is too wide for a short row, of which eight are read at once.
+// None of a row is 0. The loop is too wide for a short row, whose first eight are compiled to a straight line.
 #[tactic(auto, unfolding(rules::specs::Forms::turns, rules::specs::Forms::all))]
-fn row_unmarked<L: Lent>(plan: Plan, layer: L, y: usize, width: usize) -> bool
-    requires { InRow plan (L.held layer 2) y width }
-    ensures { result ≡ row_unmarked (celled plan (L.held layer 2)) y width }
+fn row_unmarked<L: Lent>(sheet: Sheet<L>, y: usize, width: usize) -> bool
+    requires { InRow sheet.plan y width }
+    ensures { result ≡ row_unmarked (lay sheet.plan.shape (L.held sheet.layer)) y width }
 {
     if (8..16).contains(&width) {
-        let eight = eight_unmarked(plan, layer, y);
-        return rest_unmarked(plan, layer, y, width, 8, eight);
+        let eight = least(sheet, y, 8, 0, u16::MAX);
+        return least(sheet, y, width, 8, eight) != 0;
     }
-    rest_unmarked(plan, layer, y, width, 0, true)
+    least(sheet, y, width, 0, u16::MAX) != 0
 }
 
 // None of the first rows has a 0. The first row with one is the last one read.
 #[tactic(auto, unfolding(rules::specs::Forms::turns, rules::specs::Forms::all))]
-fn rows_unmarked<L: Lent>(plan: Plan, layer: L, width: usize, height: usize) -> bool
-    requires { InRows plan (L.held layer 2) width height }
-    ensures { result ≡ rows_unmarked (celled plan (L.held layer 2)) width height }
+fn rows_unmarked<L: Lent>(sheet: Sheet<L>, width: usize, height: usize) -> bool
+    requires { InRows sheet.plan width height }
+    ensures { result ≡ rows_unmarked (lay sheet.plan.shape (L.held sheet.layer)) width height }
 {
     for y in 0..height {
-        if !row_unmarked(plan, layer, y, width) {
+        if !row_unmarked(sheet, y, width) {
             return false;
         }
     }
@@ -93,5 +64,5 @@ pub fn empty<L: Lent>(shape: Shape, layer: L) -> Result<bool, Refusal>
     let plan = layer_lent::planned(luma);
     let width = table::cells(luma.width);
     let height = table::cells(luma.height);
-    Ok(rows_unmarked(plan, layer, width, height))
+    Ok(rows_unmarked(Sheet { layer, plan }, width, height))
 }

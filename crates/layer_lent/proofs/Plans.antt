@@ -20,9 +20,6 @@ span_is p h = ap (λ (q : Plan). q.span) h.is
 pub one_of : (p : Plan) → Planned p → p.shape.plane ≡ 0 → p.span ≡ 1
 one_of p h luma = span_is p h ∙ simp (eq-eqb p.shape.plane 0 luma)
 
-pub not_luma : (p : Plan) → Planned p → p.span ≡ 2 → p.shape.plane ≡ 0 → ⊥
-not_luma p h two luma = omega (arith, two, one_of p h luma)
-
 -- the plane's ratio: 1, or the layer's
 span_in : (b : Bool) (r : ℕ) → (1 ≤ r) × (r ≤ 4) → (1 ≤ cond b 1 r) × (cond b 1 r ≤ 4)
 span_in true r h = omega arith

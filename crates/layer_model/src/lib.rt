@@ -11,6 +11,7 @@ ghost use Rattle.layer_model.specs.Least.{least_of};
 use rules::{Gain, Model, Offset};
 
 // A gain, of the total of span² stored gains. The common divisors are constants, powers of two.
+#[tactic(auto, using(crate::proofs::Fifth::scale_four, layer_numbers::proofs::Texels::scale_one))]
 fn gain_of(total: i32, span: usize) -> f32
     requires small { nat_abs total ≤ 524288 }
     requires few { span ≤ 4 }
@@ -42,6 +43,7 @@ fn least(span: usize) -> u32
 }
 
 // A gain of 0.2 or more, by size.
+#[tactic(auto, using(crate::proofs::Fifth::fifth_test))]
 pub fn strong(total: i32, span: usize) -> bool
     requires small { nat_abs total ≤ 524288 }
     requires some { 1 ≤ span }
@@ -64,7 +66,8 @@ pub fn luma_texel(gain: Gain, offset: Offset) -> Model
 }
 
 // And of a chroma pixel's: the total of its gains, and its offset.
-// Kept: two bodies, as the rules have two definitions: luma's gain is a stored one, chroma's a mean.
+// Kept: (d) two bodies beside each other, as the rules have two definitions: luma's gain is a stored one, chroma's a
+// mean, and one body for both would ask which plane it is.
 #[tactic(auto, unfolding(rules::specs::Reading::chroma_texel))]
 pub fn chroma_texel(total: i32, span: usize, offset: Offset) -> Model
     requires small { nat_abs total ≤ 524288 }

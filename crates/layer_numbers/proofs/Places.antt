@@ -1,11 +1,14 @@
 -- Where a pixel's stored numbers stand, and that they stand within their slices. Assumes nothing.
+use mathlib.Core.Path.{◌≡◌, sym, ap, ◌∙◌}
 use mathlib.Core.List.{List}
-use Prim.Native.Nat.{ℕ, ◌+◌, ◌*◌, ◌≤◌, ◌<◌}
+use Prim.Native.Nat.{ℕ, ◌+◌, ◌*◌, ◌/◌, ◌≤◌, ◌<◌}
 use native.Mathlib.Nat.{suc-mul, mul_comm, mul-le-mul_right}
 use native.Mathlib.Omega.{arith}
+use borrow.Author.Tests.{ne_eqb}
 use lib.IntN.{ℤ}
+use lib.ListN.{length}
 use Rattle.layer_lent.specs.declared.Plan.{Plan}
-use Rattle.layer_lent.specs.Lent.{LumaLong, Planned, Inside}
+use Rattle.layer_lent.specs.Lent.{LumaLong, ChromaLong, Planned, Inside}
 use Rattle.layer_numbers.specs.Stored.{RowFits}
 
 -- a place in whole rows
@@ -39,3 +42,13 @@ module _ (p : Plan) (x y : ℕ) (h : Planned p) (i : Inside p x y) where
         left = omega arith;
         inside = omega (arith, first_in (y * p.span + dy) p.shape.height p.shape.luma_pitch (x * p.span + p.span) r (omega (arith, c, f.luma_pitch)));
       }
+
+  -- a chroma pixel's offset
+  pub chroma_in : (l : List ℤ) → ChromaLong p l → (p.shape.plane ≡ 0 → ⊥) → y * p.shape.chroma_pitch + x < length l
+  chroma_in l long some =
+      let wide : p.across ≡ p.shape.width / p.shape.ratio = ap (λ (q : Plan). q.across) h.is ∙ simp (ne_eqb _ _ some) in
+      let tall : p.down ≡ p.rows = ap (λ (q : Plan). q.down) h.is ∙ simp (ne_eqb _ _ some) (sym (ap (λ (q : Plan). q.rows) h.is)) in
+      let left = i.left in
+      let above = i.above in
+      let pitch = h.formed.chroma_pitch in
+      omega (arith, long, first_in y p.rows p.shape.chroma_pitch (x + 1) (omega arith) (omega arith))

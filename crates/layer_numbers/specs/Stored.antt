@@ -1,5 +1,5 @@
 -- The stored numbers of a pixel, as whole numbers: what their readers ask and give.
-use Rattle.std.specs.Prelude.{◌≡◌, List, ℕ, ◌+◌, ◌*◌, ◌≤◌, ℤ, pos, nat_abs, length, get_or, Float}
+use Rattle.std.specs.Prelude.{◌≡◌, List, ℕ, ◌+◌, ◌*◌, ◌≤◌, ◌<◌, ℤ, pos, nat_abs, length, get_or, Float}
 use Rattle.rules.specs.Forms.{turns}
 use Rattle.rules.specs.Literals.{0·0, 4096·0}
 use Rattle.rules.specs.Float.{◌⊕◌, ◌⊗◌, ◌⊘◌, float, signed}
@@ -19,6 +19,7 @@ pub record RowFits (luma : List ℤ) (row pitch x span : ℕ) : Type 0 where
 pub record Added (luma : List ℤ) (k : ℕ) (total r : ℤ) : Type 0 where
   pub is : signed r ≡ signed total ⊕ signed (get_or luma k (pos 0))
   pub small : nat_abs r ≤ nat_abs total + 32768
+  pub number : nat_abs (get_or luma k (pos 0)) ≤ 32768
 
 -- the first n gains of such a row, added to a total, as floats
 unfoldable pub row_total : List ℤ → (row pitch x span n : ℕ) → Float → Float
@@ -28,14 +29,16 @@ row_total luma row pitch x span = turns (λ dx t. t ⊕ signed (get_or luma (row
 unfoldable pub block_total : List ℤ → (pitch span x y rows : ℕ) → Float
 block_total luma pitch span x y rows = turns (λ dy. row_total luma (y * span + dy) pitch x span span) rows 0·0
 
--- the same as whole numbers
+-- the same as whole numbers, of numbers of 16 bits
 pub record RowSummed (luma : List ℤ) (row pitch x span n : ℕ) (total r : ℤ) : Type 0 where
   pub is : signed r ≡ row_total luma row pitch x span n (signed total)
   pub small : nat_abs r ≤ nat_abs total + n * 32768
+  pub number : (dx : ℕ) → dx < n → nat_abs (get_or luma (row * pitch + (x * span + dx)) (pos 0)) ≤ 32768
 
 pub record BlockSummed (luma : List ℤ) (pitch span x y rows : ℕ) (r : ℤ) : Type 0 where
   pub is : signed r ≡ block_total luma pitch span x y rows
   pub small : nat_abs r ≤ rows * 131072
+  pub number : (dx dy : ℕ) → dx < span → dy < rows → nat_abs (get_or luma ((y * span + dy) * pitch + (x * span + dx)) (pos 0)) ≤ 32768
 
 -- a gain, of the whole total of span² stored gains
 abbrev pub gain_by : (span : ℕ) → (total : ℤ) → Float

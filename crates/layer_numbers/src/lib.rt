@@ -1,12 +1,12 @@
 // The stored numbers of a pixel's model: the total of its gains, and its offset.
 #![tactic(auto)]
 
-ghost use Rattle.std.specs.Prelude.{◌≡◌, [], ◌<◌, ◌≤◌, pos, nat_abs, length, get_or};
+ghost use Rattle.std.specs.Prelude.{◌≡◌, ◌<◌, ◌≤◌, pos, nat_abs, length, get_or};
 ghost use Rattle.rules.specs.Reading.{luma_gain, luma_offset, stored_chroma};
-ghost use Rattle.layer_lent.specs.Lent.{holding, lay, LumaLong, Planned, Sound, Inside};
+ghost use Rattle.layer_lent.specs.Lent.{lay, Inside};
 ghost use Rattle.layer_numbers.specs.Stored.{RowFits, Added, RowSummed, Summed};
 
-use layer_lent::{Lent, Plan};
+use layer_lent::{Lent, Sheet};
 use rules::{Gain, Offset};
 
 // The gain that is number k of the luma slice.
@@ -27,6 +27,7 @@ fn added<L: Lent>(layer: L, k: usize, total: i32) -> i32
 }
 
 // A row of a pixel's gains, added to a total. The span is a constant: the loops are unrolled.
+#[tactic(auto, using(crate::proofs::Sums::row_none, crate::proofs::Sums::row_more))]
 fn gain_row<L: Lent, const SPAN: usize>(
     layer: L,
     row: usize,
@@ -47,97 +48,62 @@ fn gain_row<L: Lent, const SPAN: usize>(
 }
 
 // The gain of a pixel that has one.
-pub fn luma_gain<L: Lent>(plan: Plan, layer: L, x: usize, y: usize) -> Gain
-    requires planned { Planned plan }
-    requires inside { Inside plan x y }
-    requires long { LumaLong plan (L.held layer 0) }
-    requires one { plan.span ≡ 1 }
-    ensures { result ≡ luma_gain (holding plan.shape (L.held layer 0) [] []) x y }
+pub fn luma_gain<L: Lent>(sheet: Sheet<L>, x: usize, y: usize) -> Gain
+    requires inside { Inside sheet.plan x y }
+    requires one { sheet.plan.span ≡ 1 }
+    ensures { result ≡ luma_gain (lay sheet.plan.shape (L.held sheet.layer)) x y }
 {
-    gain(layer, plane::place(y, plan.shape.luma_pitch, x))
+    gain(sheet.layer, plane::place(y, sheet.plan.shape.luma_pitch, x))
 }
 
-// The total of the gains of a pixel that has one.
-fn one<L: Lent>(plan: Plan, layer: L, x: usize, y: usize) -> i32
-    requires planned { Planned plan }
-    requires inside { Inside plan x y }
-    requires long { LumaLong plan (L.held layer 0) }
-    requires one { plan.span ≡ 1 }
-    ensures { Summed plan (L.held layer 0) x y result }
-{
-    i32::from(luma_gain(plan, layer, x, y).0)
-}
-
-// And of one that has more, row by row.
-fn block<L: Lent, const SPAN: usize>(plan: Plan, layer: L, x: usize, y: usize) -> i32
-    requires planned { Planned plan }
-    requires inside { Inside plan x y }
-    requires long { LumaLong plan (L.held layer 0) }
-    requires same { plan.span ≡ SPAN }
-    requires more { SPAN ≡ 1 → ⊥ }
-    ensures { Summed plan (L.held layer 0) x y result }
+// The total of a pixel's gains, row by row, by a span that is a constant.
+#[tactic(auto, using(crate::proofs::Sums::block_none, crate::proofs::Sums::block_more, crate::proofs::Places::row_fits))]
+pub fn block<L: Lent, const SPAN: usize>(sheet: Sheet<L>, x: usize, y: usize) -> i32
+    requires inside { Inside sheet.plan x y }
+    requires same { sheet.plan.span ≡ SPAN }
+    ensures { Summed sheet.plan (L.held sheet.layer 0) x y result }
 {
     let mut sum = 0;
     for dy in 0..SPAN {
         let row = plane::place(y, SPAN, dy);
-        sum = gain_row::<L, SPAN>(layer, row, plan.shape.luma_pitch, x, sum);
+        sum = gain_row::<L, SPAN>(sheet.layer, row, sheet.plan.shape.luma_pitch, x, sum);
     }
     sum
 }
 
-// And of either, by a span that is a constant.
-pub fn one_or_four<L: Lent, const SPAN: usize>(plan: Plan, layer: L, x: usize, y: usize) -> i32
-    requires planned { Planned plan }
-    requires inside { Inside plan x y }
-    requires long { LumaLong plan (L.held layer 0) }
-    requires same { plan.span ≡ SPAN }
-    requires few { SPAN ≤ 2 }
-    ensures { Summed plan (L.held layer 0) x y result }
+// And by the plan's.
+pub fn gains<L: Lent>(sheet: Sheet<L>, x: usize, y: usize) -> i32
+    requires { Inside sheet.plan x y }
+    ensures { Summed sheet.plan (L.held sheet.layer 0) x y result }
 {
-    if SPAN == 1 {
-        one(plan, layer, x, y)
-    } else {
-        block::<L, 2>(plan, layer, x, y)
-    }
-}
-
-// The total of a pixel's gains.
-// Kept: through `one_or_four` peel's rings of chroma, when measured, took twice as long.
-pub fn gains<L: Lent>(plan: Plan, layer: L, x: usize, y: usize) -> i32
-    requires planned { Planned plan }
-    requires inside { Inside plan x y }
-    requires long { LumaLong plan (L.held layer 0) }
-    ensures { Summed plan (L.held layer 0) x y result }
-{
-    match plan.span {
-        1 => one(plan, layer, x, y),
-        2 => block::<L, 2>(plan, layer, x, y),
-        _ => block::<L, 4>(plan, layer, x, y),
+    match sheet.plan.span {
+        1 => block::<L, 1>(sheet, x, y),
+        2 => block::<L, 2>(sheet, x, y),
+        _ => block::<L, 4>(sheet, x, y),
     }
 }
 
 // The offset of a luma pixel.
-pub fn luma_offset<L: Lent>(plan: Plan, layer: L, x: usize, y: usize) -> Offset
-    requires planned { Planned plan }
-    requires inside { Inside plan x y }
-    requires long { LumaLong plan (L.held layer 0) }
-    requires luma { plan.shape.plane ≡ 0 }
-    ensures { result ≡ luma_offset (holding plan.shape (L.held layer 0) [] []) x y }
+pub fn luma_offset<L: Lent>(sheet: Sheet<L>, x: usize, y: usize) -> Offset
+    requires inside { Inside sheet.plan x y }
+    requires luma { sheet.plan.shape.plane ≡ 0 }
+    ensures { result ≡ luma_offset (lay sheet.plan.shape (L.held sheet.layer)) x y }
 {
-    let k = plane::place(plan.shape.height + y, plan.shape.luma_pitch, x);
-    Offset(layer.entry(0, k))
+    let shape = sheet.plan.shape;
+    let k = plane::place(shape.height + y, shape.luma_pitch, x);
+    Offset(sheet.layer.entry(0, k))
 }
 
 // And of a chroma pixel.
-pub fn chroma_offset<L: Lent>(plan: Plan, layer: L, x: usize, y: usize) -> Offset
-    requires sound { Sound plan (L.held layer) }
-    requires inside { Inside plan x y }
-    requires chroma { plan.shape.plane ≡ 0 → ⊥ }
-    ensures { result ≡ stored_chroma (lay plan.shape (L.held layer)) plan.shape.plane x y }
+pub fn chroma_offset<L: Lent>(sheet: Sheet<L>, x: usize, y: usize) -> Offset
+    requires inside { Inside sheet.plan x y }
+    requires chroma { sheet.plan.shape.plane ≡ 0 → ⊥ }
+    ensures { result ≡ stored_chroma (lay sheet.plan.shape (L.held sheet.layer)) sheet.plan.shape.plane x y }
 {
-    let k = plane::place(y, plan.shape.chroma_pitch, x);
-    match plan.shape.plane {
-        1 => Offset(layer.entry(1, k)),
-        _ => Offset(layer.entry(2, k)),
+    let shape = sheet.plan.shape;
+    let k = plane::place(y, shape.chroma_pitch, x);
+    match shape.plane {
+        1 => Offset(sheet.layer.entry(1, k)),
+        _ => Offset(sheet.layer.entry(2, k)),
     }
 }

@@ -1,21 +1,16 @@
--- The model at a point: by the columns and rows around it, and of luma by its own numbers. Assumes nothing.
+-- The model at a point, by the columns and rows around it. Assumes nothing.
 use mathlib.Core.Path.{◌≡◌, ap}
 use mathlib.Core.Bool.{Bool, true, false, ◌&&◌}
-use Prim.Native.Nat.{ℕ, ◌+◌, ◌*◌, ◌/◌}
-use native.Mathlib.Nat.{add-mul}
-use native.Mathlib.Omega.{arith}
-use borrow.Author.Tests.{eq-eqb}
-use lib.IntN.{pos}
-use lib.ListN.{get_or}
+use Prim.Native.Nat.{ℕ, ◌/◌}
 use lib.Ieee.{Float, eq}
 use Rattle.rules.specs.declared.Model.{Model}
 use Rattle.rules.specs.declared.Taps.{Taps}
 use Rattle.rules.specs.Forms.{Plane, Layer, plane_size}
 use Rattle.rules.specs.Literals.{0·0}
-use Rattle.rules.specs.Reading.{luma_texel, texel, mix_models, mixed_model, model_at, sample}
+use Rattle.rules.specs.Reading.{texel, mix_models, mixed_model, model_at, sample}
 use Rattle.sample.specs.Points.{around, sampled_row, sampled_at}
 use Rattle.layer_lent.specs.declared.Plan.{Plan}
-use Rattle.layer_lent.specs.Lent.{lay, ratio_of, Planned, Held}
+use Rattle.layer_lent.specs.Lent.{ratio_of, Planned}
 use Rattle.layer_point.specs.Points.{row_of, point_of}
 
 -- ---- whatever the models of the pixels are
@@ -46,15 +41,3 @@ across_is p h = ap (λ (q : Plan). q.across) h.is
 
 pub down_is : (p : Plan) → Planned p → p.down ≡ p.shape.height / ratio_of p.shape
 down_is p h = ap (λ (q : Plan). q.down) h.is
-
--- a luma pixel's offset stands a plane after its gain
-pub luma_is : (p : Plan) (held : Held) (shift x y : ℕ) → p.shape.plane ≡ 0 → shift ≡ p.shape.height * p.shape.luma_pitch
-    → let k = y * p.shape.luma_pitch + x in
-    luma_texel (record { 0 = get_or (held 0) k (pos 0) }) (record { 0 = get_or (held 0) (k + shift) (pos 0) })
-    ≡ texel (lay p.shape held) p.shape.plane x y
-unfolding texel
-luma_is p held shift x y zero shifted =
-    let h = p.shape.height in
-    let k = p.shape.luma_pitch in
-    let e : y * k + x + h * k ≡ (h + y) * k + x = omega (arith, add-mul h y k) in
-    rw (shifted, e, eq-eqb _ _ zero)

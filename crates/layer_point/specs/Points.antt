@@ -1,19 +1,10 @@
--- A layer between its pixels, over a byte plane: what its readers ask, and the model by the columns and rows around a
--- point.
-use Rattle.std.specs.Prelude.{◌≡◌, cond, ◌&&◌, List, ℕ, ◌<◌}
+-- A layer between its pixels: what its readers ask, and the model by the columns and rows around a point.
+use Rattle.std.specs.Prelude.{◌≡◌, cond, ◌&&◌, ℕ, ◌<◌}
 use Rattle.std.specs.Float.Ieee as Ieee
 use Rattle.rules.specs.declared.Model.{Model}
 use Rattle.rules.specs.declared.Taps.{Taps}
 use Rattle.rules.specs.Literals.{0·0}
-use Rattle.rules.specs.Reading.{texel, mix_models}
-use Rattle.sample.specs.Points.{PlaneFits}
-use Rattle.layer_lent.specs.declared.Plan.{Plan}
-use Rattle.layer_lent.specs.Lent.{lay, Sound, Inside, Held}
-
--- a layer that can be read, and a byte plane over the plane that is worked on
-pub record LiesOver (p : Plan) (held : Held) (raw : List ℕ) (pitch : ℕ) : Type 0 where
-  pub sound : Sound p held
-  pub fits : PlaneFits raw pitch p.across p.down
+use Rattle.rules.specs.Reading.{mix_models}
 
 -- two columns, and two rows, of a plane
 pub record Around (width height : ℕ) (across down : Taps) : Type 0 where
@@ -24,10 +15,16 @@ pub record Around (width height : ℕ) (across down : Taps) : Type 0 where
 
 -- ---- a model at a point, whatever the models of the pixels are
 
--- what reads the model of each pixel of a plane
-abbrev pub Reads : Plan → Held → (pre : ℕ → ℕ → Type 0) → (post : ℕ → ℕ → Model → Type 0) → Type 0
-Reads p held pre post =
-    (x y : ℕ) → Inside p x y → pre x y × ((m : Model) → post x y m → m ≡ texel (lay p.shape held) p.shape.plane x y)
+-- the four pixels around a point can be read
+pub record Readable (pre : ℕ → ℕ → Type 0) (across down : Taps) : Type 0 where
+  pub upper_left : pre across.first down.first
+  pub upper_right : pre across.second down.first
+  pub lower_left : pre across.first down.second
+  pub lower_right : pre across.second down.second
+
+-- what is read of each pixel is its model
+abbrev pub Gives : (post : ℕ → ℕ → Model → Type 0) → (t : ℕ → ℕ → Model) → Type 0
+Gives post t = (x y : ℕ) → (m : Model) → post x y m → m ≡ t x y
 
 -- a row of models between two columns
 unfoldable pub row_of : ((x y : ℕ) → Model) → (across : Taps) → (y : ℕ) → Model

@@ -1,13 +1,13 @@
 // A layer's model at a point, by the columns and rows around it.
 #![tactic(auto)]
 
-ghost use Rattle.std.specs.Prelude.{◌≡◌, ◌*◌, ◌<◌};
+ghost use Rattle.std.specs.Prelude.{◌≡◌, ℕ};
 ghost use Rattle.rules.specs.Reading.{mix_models, texel as texel_of};
-ghost use Rattle.layer_lent.specs.Lent.{lay, Sound, Inside};
-ghost use Rattle.layer_point.specs.Points.{Reads, Around, row_of, point_of};
+ghost use Rattle.layer_lent.specs.Lent.{lay};
+ghost use Rattle.layer_point.specs.Points.{Gives, Readable, Around, row_of, point_of};
 
-use layer_lent::{Lent, Plan};
-use rules::{Gain, Model, Offset, Taps};
+use layer_lent::{Lent, Sheet};
+use rules::{Model, Taps};
 
 // Two models, mixed by a share.
 fn mix_models(one: Model, other: Model, share: f32) -> Model
@@ -20,76 +20,42 @@ fn mix_models(one: Model, other: Model, share: f32) -> Model
 }
 
 // Two models of a row, mixed. What reads the model of a pixel is given.
-fn row<L: Lent, F: Fn(Plan, L, usize, usize) -> Model + Copy>(
-    read: F,
-    plan: Plan,
-    layer: L,
-    across: Taps,
-    y: usize,
-) -> Model
-    requires reads { Reads plan (L.held layer) (F.pre read plan layer) (F.post read plan layer) }
-    requires left { across.first < plan.across }
-    requires right { across.second < plan.across }
-    requires above { y < plan.down }
-    ensures { result ≡ row_of (texel_of (lay plan.shape (L.held layer)) plan.shape.plane) across y }
+fn row<F: Fn(usize, usize) -> Model + Copy>(read: F, across: Taps, y: usize) -> Model
+    requires left { F.pre read across.first y }
+    requires right { F.pre read across.second y }
+    ensures { (t : ((x y : ℕ) → Model)) → Gives (F.post read) t → result ≡ row_of t across y }
 {
-    let left = read(plan, layer, across.first, y);
-    let right = read(plan, layer, across.second, y);
+    let left = read(across.first, y);
+    let right = read(across.second, y);
     mix_models(left, right, across.share)
 }
 
 // The model at a point; at a whole point that pixel's own.
-fn point<L: Lent, F: Fn(Plan, L, usize, usize) -> Model + Copy>(
-    read: F,
-    plan: Plan,
-    layer: L,
-    across: Taps,
-    down: Taps,
-) -> Model
-    requires reads { Reads plan (L.held layer) (F.pre read plan layer) (F.post read plan layer) }
-    requires around { Around plan.across plan.down across down }
-    ensures { result ≡ point_of (texel_of (lay plan.shape (L.held layer)) plan.shape.plane) across down }
+fn point<F: Fn(usize, usize) -> Model + Copy>(read: F, across: Taps, down: Taps) -> Model
+    requires { Readable (F.pre read) across down }
+    ensures { (t : ((x y : ℕ) → Model)) → Gives (F.post read) t → result ≡ point_of t across down }
 {
     if (across.share == 0.0) & (down.share == 0.0) {
-        return read(plan, layer, across.first, down.first);
+        return read(across.first, down.first);
     }
-    let upper = row(read, plan, layer, across, down.first);
-    let lower = row(read, plan, layer, across, down.second);
+    let upper = row(read, across, down.first);
+    let lower = row(read, across, down.second);
     mix_models(upper, lower, down.share)
 }
 
-// The model of a luma pixel, whose offset stands `shift` after its gain.
-// Kept: `layer_texel::straight` is no plainer here, and finds the offset's row anew for each pixel.
-fn luma_at<L: Lent>(plan: Plan, layer: L, shift: usize, x: usize, y: usize) -> Model
-    requires sound { Sound plan (L.held layer) }
-    requires inside { Inside plan x y }
-    requires luma { plan.shape.plane ≡ 0 }
-    requires shifted { shift ≡ plan.shape.height * plan.shape.luma_pitch }
-    ensures { result ≡ texel_of (lay plan.shape (L.held layer)) plan.shape.plane x y }
+// The model at a point: luma and chroma at ratio 2 are read in straight lines.
+#[tactic(auto, using(layer_lent::proofs::Plans::one_of))]
+pub fn model_by<L: Lent>(sheet: Sheet<L>, across: Taps, down: Taps) -> Model
+    requires { Around sheet.plan.across sheet.plan.down across down }
+    ensures { result ≡ point_of (texel_of (lay sheet.plan.shape (L.held sheet.layer)) sheet.plan.shape.plane) across down }
 {
-    let k = plane::place(y, plan.shape.luma_pitch, x);
-    layer_model::luma_texel(Gain(layer.entry(0, k)), Offset(layer.entry(0, k + shift)))
-}
-
-// The model at a point: luma's offset is found by its gain, and chroma at ratio 2 is read in straight lines.
-pub fn model_by<L: Lent>(plan: Plan, layer: L, across: Taps, down: Taps) -> Model
-    requires sound { Sound plan (L.held layer) }
-    requires around { Around plan.across plan.down across down }
-    ensures { result ≡ point_of (texel_of (lay plan.shape (L.held layer)) plan.shape.plane) across down }
-{
-    if plan.shape.plane == 0 {
-        let shift = plane::place(plan.shape.height, plan.shape.luma_pitch, 0);
-        let luma = |plan: Plan, layer: L, x: usize, y: usize| luma_at(plan, layer, shift, x, y);
-        return point(luma, plan, layer, across, down);
+    if sheet.plan.shape.plane == 0 {
+        let luma = |x, y| layer_texel::straight::<L, true, 1>(sheet, x, y);
+        return point(luma, across, down);
     }
-    if plan.span == 2 {
-        return point(
-            layer_texel::straight::<L, false, 2>,
-            plan,
-            layer,
-            across,
-            down,
-        );
+    if sheet.plan.span == 2 {
+        let chroma = |x, y| layer_texel::straight::<L, false, 2>(sheet, x, y);
+        return point(chroma, across, down);
     }
-    point(layer_texel::texel::<L>, plan, layer, across, down)
+    point(|x, y| layer_texel::texel(sheet, x, y), across, down)
 }

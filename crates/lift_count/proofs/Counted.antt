@@ -1,7 +1,7 @@
 -- The laws of a count that goes through a row by stretches. Assumes nothing.
 use mathlib.Core.Path.{◌≡◌, refl, sym, ◌∙◌}
 use mathlib.Core.Bool.{Bool, true, false, not, cond, ◌&&◌}
-use mathlib.Core.List.{List, []}
+use mathlib.Core.List.{List}
 use Prim.Native.Nat.{ℕ, zero, suc, ◌+◌, ◌-◌, ◌≤◌, ◌<◌}
 use native.Mathlib.Numerals.{add-one}
 use native.Mathlib.Omega.{arith}
@@ -79,7 +79,7 @@ module _ {l : Layer} {plane y : ℕ} where
 
 -- ---- a pixel, by its cell and its model
 
-pub layered_is : (s : Shape) (luma first second : List ℤ) (plane x y : ℕ) {near : Bool} {d : ℤ} {m : Model} → d ≡ distance (holding s [] [] second) plane x y
+pub layered_is : (s : Shape) (luma first second : List ℤ) (plane x y : ℕ) {near : Bool} {d : ℤ} {m : Model} → d ≡ distance (holding s luma first second) plane x y
     → near ≡ (signed d ⊗ 8·0 ⊖ 8·0 ≼ 0·0) → m ≡ texel (holding s luma first second) plane x y
     → (near && not (is_plain m)) ≡ layered (holding s luma first second) plane x y
 unfolding layered gap distance

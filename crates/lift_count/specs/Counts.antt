@@ -1,17 +1,17 @@
 -- What counting asks, and what it gives.
-use Rattle.std.specs.Prelude.{◌≡◌, ℕ, ◌+◌, ◌-◌, ◌*◌, ◌^◌, ◌≤◌, ◌<◌}
+use Rattle.std.specs.Prelude.{◌≡◌, ℕ, ◌+◌, ◌-◌, ◌*◌, ◌≤◌, ◌<◌}
 use Rattle.rules.specs.Forms.{Plane, Frames, Layer, Rule, plane_size, scan_row, tally, counted}
+use Rattle.rules.specs.declared.Model.{Model}
+use Rattle.rules.specs.Reading.{texel}
 use Rattle.rules.specs.Peel.{layered, peel_rule}
 use Rattle.rules.specs.Unpeel.{unpeel_rule}
 use Rattle.layer_lent.specs.declared.Plan.{Plan}
-use Rattle.lift_rows.specs.declared.Stretch.{Stretch}
+use Rattle.layer_lent.specs.Lent.{lay, Held}
 
--- a stretch of the plane
-pub record StretchAsks (p : Plan) (s : Stretch) : Type 0 where
-  pub above : s.y < p.down
-  pub ahead : s.from ≤ s.to
-  pub within : s.to ≤ p.across
-  pub few : s.count + (s.to - s.from) < 2 ^ 63
+-- what a closure may be asked of each pixel of a part of a row, and that it reads the pixel's model
+abbrev pub Reads : Plan → Held → (y from to : ℕ) → (pre : ℕ → Type 0) → (post : ℕ → Model → Type 0) → Type 0
+Reads p held y from to pre post =
+    (x : ℕ) → from ≤ x → x < to → pre x × ((m : Model) → post x m → m ≡ texel (lay p.shape held) p.shape.plane x y)
 
 -- the pixels that peel and unpeel write, whatever they write there
 abbrev pub layered_rule : Layer → (plane : ℕ) → Rule
@@ -22,9 +22,9 @@ pub record CountedOn (l : Layer) (plane y from to count r : ℕ) : Type 0 where
   pub on : (start : ℕ) → count ≡ scan_row (tally (layered_rule l plane)) y from start → r ≡ scan_row (tally (layered_rule l plane)) y to start
   pub few : r ≤ count + (to - from)
 
--- of a stretch
-abbrev pub StretchCounted : Plan → Layer → Stretch → (r : ℕ) → Type 0
-StretchCounted p l s r = CountedOn l p.shape.plane s.y s.from s.to s.count r
+-- of a sheet
+abbrev pub PartCounted : Plan → Held → (y from to count r : ℕ) → Type 0
+PartCounted p held y from to count r = CountedOn (lay p.shape held) p.shape.plane y from to count r
 
 -- the first pixels of a row, with those counted before
 pub record RowCounted (l : Layer) (plane y width count r : ℕ) : Type 0 where

@@ -1,10 +1,11 @@
 -- Which pixels both works write, and the scene at a pixel, filled. Assumes nothing.
-use mathlib.Core.Path.{◌≡◌, sym}
-use mathlib.Core.Bool.{true, false, not}
+use mathlib.Core.Path.{◌≡◌, refl, sym, ap, ◌∙◌}
+use mathlib.Core.Bool.{Bool, true, false, not, cond}
 use Prim.Native.Nat.{ℕ, ◌≤◌}
 use lib.ListN.{get_or}
 use lib.Ieee.{Float}
 use Rattle.std.specs.Prelude.{Some, None}
+use Rattle.std.specs.Bool.{then_some}
 use Rattle.plane.specs.Done.{change}
 use Rattle.rules.specs.declared.Model.{Model}
 use Rattle.rules.specs.declared.Scene.TheVariants.{Lifted, Raw}
@@ -33,14 +34,14 @@ far_writes l plane x y t = rw t
 
 -- ---- what is done to a pixel of a near cell
 
-module _ (byte : Bytes) (s : Shape) (held : Held) (x y old : ℕ) (near : (gap (lay s held) s.plane x y ≼ 0·0) ≡ true) where
-  pub change_keep : is_plain (texel (lay s held) s.plane x y) ≡ true → None ≡ change (rule_of byte s held) x y old
-  unfolding change
-  change_keep t = sym (simp (near_writes (lay s held) s.plane x y near, t))
-
-  pub change_put : (b : ℕ) → is_plain (texel (lay s held) s.plane x y) ≡ false → b ≡ byte s held x y old → Some b ≡ change (rule_of byte s held) x y old
-  unfolding change
-  change_put b t e = rw e (sym (simp (near_writes (lay s held) s.plane x y near, t)))
+pub near_change : (byte : Bytes) (s : Shape) (held : Held) (x y old : ℕ) {plain : Bool} → (gap (lay s held) s.plane x y ≼ 0·0) ≡ true
+    → is_plain (texel (lay s held) s.plane x y) ≡ plain → then_some (not plain) (byte x y old) ≡ change (rule_of byte s held) x y old
+unfolding change
+near_change byte s held x y old near is = sym (go _ (near_writes (lay s held) s.plane x y near ∙ ap not is))
+  where
+    go : {writes : Bool} (b : Bool) → writes ≡ b → cond writes (Some (byte x y old)) None ≡ then_some b (byte x y old)
+    go true e = rw e refl
+    go false e = rw e refl
 
 -- ---- the scene at a pixel
 

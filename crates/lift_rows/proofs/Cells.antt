@@ -1,27 +1,26 @@
 -- The laws of a row that is gone through cell by cell. Assumes nothing.
-use mathlib.Core.Path.{◌≡◌, refl, sym}
-use mathlib.Core.Bool.{Bool, true, false, not, beq}
+use mathlib.Core.Path.{◌≡◌, ap}
+use mathlib.Core.Bool.{Bool, true, false, not}
 use mathlib.Core.Logic.{◌⊎◌, inl, inr}
-use mathlib.Core.List.{List, []}
+use mathlib.Core.List.{List}
 use Prim.Native.Nat.{ℕ, ◌+◌, ◌-◌, ◌*◌, ◌/◌, ◌≤◌, ◌<◌}
-use native.Mathlib.Nat.{eq-or-lt_of_le, mul-le-mul_right}
-use native.Mathlib.Decide.{dec_lt}
+use native.Mathlib.Nat.{eq-or-lt_of_le, mul-le-mul_right, le-div_iff_mul-le, div-lt_iff_lt-mul}
 use native.Mathlib.Omega.{arith}
-use lib.IntN.{ℤ}
 use lib.ListN.{get_or}
-use Rattle.rules.specs.Forms.{Rule}
-use Rattle.rules.specs.Literals.{0·0, 8·0}
-use Rattle.rules.specs.Float.{◌⊖◌, ◌⊗◌, ◌≼◌, signed}
+use Rattle.rules.specs.Forms.{Layer, Rule}
+use Rattle.rules.specs.Literals.{0·0}
+use Rattle.rules.specs.Float.{◌≼◌}
 use Rattle.rules.specs.Reading.{distance, gap}
-use Rattle.std.specs.Prelude.{Option, Some, None}
+use Rattle.std.specs.Prelude.{Option, Some, None, MatchOption, unwrap_or}
+use lib.Dec.{eqb}
 use Rattle.plane.specs.Done.{change, Stamped}
 use Rattle.plane.proofs.Laws.{tallied_few, row_more, row_skip_run}
 use Rattle.layer_lent.specs.declared.Plan.{Plan}
-use Rattle.layer_lent.specs.Lent.{holding, Planned, Held}
-use Rattle.lift_pixel.specs.Works.{Bytes, rule_of}
-use Rattle.lift_pixel.proofs.Peels.{far_writes}
-use Rattle.layer_cell.specs.Cells.{CellEnd}
-use Rattle.lift_rows.specs.Rows.{Alike, CellsTo, RowOn}
+use Rattle.layer_lent.specs.Lent.{lay, ratio_of, Planned, Held}
+use Rattle.layer_cell.specs.Cells.{CellInside}
+use Rattle.layer_cell.proofs.Ends.{cell_in}
+use Rattle.lift_rows.specs.Rows.{RowOn}
+use Rattle.lift_rows.specs.Stretches.{near_cell, Cells, FirstAt, First, cells_of, column}
 
 -- ---- from a column to another
 
@@ -52,58 +51,71 @@ run_skip rule pitch y from to count bytes ahead none =
       few = omega arith;
     }
 
--- ---- cells that are alike
+-- ---- the cells of a row
 
-pub differs : (a b : Bool) → not (beq a b) ≡ true → a ≡ not b
-differs true true e = sym e
-differs true false e = refl
-differs false true e = refl
-differs false false e = e
+module _ (p : Plan) (held : Held) (h : Planned p) where
+  -- a row of cells, and a column, are the layer's
+  pub row_inside : (y : ℕ) → y < p.down → y / p.side < p.rows
+  row_inside y above =
+      let s = p.shape in
+      let f = h.formed in
+      rw h.is (cell_in (eqb s.plane 0) s.height s.ratio y f.ratio f.whole_down (rw h.is at above))
 
-pub agrees : (a b : Bool) → not (beq a b) ≡ false → a ≡ b
-agrees true true e = refl
-agrees true false e = e
-agrees false true e = sym e
-agrees false false e = refl
+  pub cell_inside : (k row : ℕ) → row < p.rows → k < cells_of p → CellInside p k row
+  cell_inside k row above left =
+      let s = p.shape in
+      let f = h.formed in
+      let last : p.across - 1 < s.width / ratio_of s = omega (arith, ap (λ (q : Plan). q.across) h.is, h.wide.0) in
+      let x : (p.across - 1) / p.side < s.width / s.ratio =
+      rw (ap (λ (q : Plan). q.side) h.is) (cell_in (eqb s.plane 0) s.width s.ratio (p.across - 1) f.ratio f.whole_across last) in
+      record { left = omega (arith, f.chroma_pitch.0); above = above }
 
-module _ (p : Plan) (h : Planned p) (second : List ℤ) (y : ℕ) where
-  -- the pixels of a cell have one gap
-  gap_is : (x k : ℕ) (luma first : List ℤ) (d : ℤ) → k / p.side ≡ x / p.side → d ≡ distance (holding p.shape [] [] second) p.shape.plane x y
-      → gap (holding p.shape luma first second) p.shape.plane k y ≡ signed d ⊗ 8·0 ⊖ 8·0
+  -- one begins within the plane, and the last one ends it
+  pub begins : (k : ℕ) → k < cells_of p → k * p.side < p.across
+  begins k below =
+      let w = h.wide in
+      let m = (le-div_iff_mul-le {k = p.side} {x = k} {y = p.across - 1} (omega (arith, h.small))).0 (omega arith) in
+      omega arith
+
+  pub all_columns : column p (cells_of p) ≡ p.across
+  all_columns =
+      let w = h.wide in
+      let m = (div-lt_iff_lt-mul {k = p.side} {x = p.across - 1} {y = cells_of p} (omega (arith, h.small))).0 (omega arith) in
+      omega arith
+
+  -- the pixels of cells that are near, or far
+  pub alike : (near : Bool) (y from to : ℕ) → Cells (lay p.shape held) (y / p.side) near from to
+      → (k : ℕ) → column p from ≤ k → k < column p to → (gap (lay p.shape held) p.shape.plane k y ≼ 0·0) ≡ near
   unfolding gap distance
-  gap_is x k luma first d one is = rw (is, rw h.is at one)
+  alike near y from to cells k low high =
+      let some : 0 < p.side = omega (arith, h.small) in
+      let first = (le-div_iff_mul-le {k = p.side} {x = from} {y = k} some).1 (omega arith) in
+      let last = (div-lt_iff_lt-mul {k = p.side} {x = k} {y = to} some).1 (omega arith) in
+      rw h.is at (cells (k / p.side) first last)
 
-  pub test_is : (x : ℕ) (near : Bool) (d : ℤ) → d ≡ distance (holding p.shape [] [] second) p.shape.plane x y
-      → (signed d ⊗ 8·0 ⊖ 8·0 ≼ 0·0) ≡ near → (gap (holding p.shape [] [] second) p.shape.plane x y ≼ 0·0) ≡ near
-  test_is x near d is t = rw (gap_is x x [] [] d refl is) t
+-- ---- what a search finds
 
-  -- one cell more
-  pub alike_more : (from x to : ℕ) (near : Bool) (d : ℤ) → d ≡ distance (holding p.shape [] [] second) p.shape.plane x y
-      → (signed d ⊗ 8·0 ⊖ 8·0 ≼ 0·0) ≡ near → CellEnd x p.side p.across to → Alike p second y from near x → Alike p second y from near to
-  alike_more from x to near d is t end done luma first k low high =
-      go (dec_lt k x)
-    where
-      go : Dec (k < x) → (gap (holding p.shape luma first second) p.shape.plane k y ≼ 0·0) ≡ near
-      go (yes below) = done luma first k low below
-      go (no above) = rw (gap_is x k luma first d (end.same k (omega arith) high) is) t
+pub first_is : (l : Layer) (row : ℕ) (near : Bool) (from to : ℕ) (r : Option ℕ)
+    → MatchOption r (Cells l row (not near) from to) (λ k. (from ≤ k) × (k < to) × (near_cell l k row ≡ near) × Cells l row (not near) from k)
+    → First l row near from to r
+first_is l row near from to None h = h
+first_is l row near from to (Some k) h = record { ahead = h.0; within = h.1; is = h.2; before = h.3 }
 
-  -- far pixels are not written
-  pub far_all : (held : Held) (byte : Bytes) (from to : ℕ) → second ≡ held 2 → Alike p second y from false to
-      → (k : ℕ) → from ≤ k → k < to → (rule_of byte p.shape held).writes k y ≡ false
-  far_all held byte from to is far k low high = far_writes _ _ k y (rw is at (far (held 0) (held 1) k low high))
+-- the near cells from the first one up to the far one after it, or to the end
+pub near_cells : (l : Layer) (row from to first e : ℕ) (r : Option ℕ) → FirstAt l row true from to first → First l row false (first + 1) to r → e ≡ unwrap_or r to
+    → (first < e) × (e ≤ to) × Cells l row true first e
+near_cells l row from to first e r found next is = go r next is
+  where
+    joined : (n : ℕ) → Cells l row true (first + 1) n → Cells l row true first n
+    joined n more k low high = pick (eq-or-lt_of_le {n = first} {m = k} low)
+      where
+        pick : (first ≡ k) ⊎ (first < k) → near_cell l k row ≡ true
+        pick (inl same) = rw same at found.is
+        pick (inr less) = more k (omega arith) high
 
-  -- after the far cells and the near ones a row is further on
-  pub onward : {x from to : ℕ} → CellsTo p second y x false from → CellsTo p second y from true to → x < p.across → x < to
-  onward {x} {from} {to} far near inside = go (eq-or-lt_of_le {n = x} {m = to} (omega (arith, far.ahead, near.ahead)))
-    where
-      go : (x ≡ to) ⊎ (x < to) → x < to
-      go (inr less) = less
-      go (inl same) =
-          let e : from ≡ to = omega (arith, far.ahead, near.ahead) in
-          let one = rw e at (far.ends (omega arith)) in
-          let other = near.ends (omega arith) in
-          let z : ◌≡◌ {A = ℕ} 0 1 = cc in
-          omega arith
+    go : (o : Option ℕ) → First l row false (first + 1) to o → e ≡ unwrap_or o to → (first < e) × (e ≤ to) × Cells l row true first e
+    go None none end = rw end (found.within, omega arith, joined to none)
+    go (Some i) far end = rw end (omega (arith, far.ahead), omega (arith, far.within), joined i far.before)
 
 -- ---- the rows of an output
 

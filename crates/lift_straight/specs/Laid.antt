@@ -1,19 +1,13 @@
--- A pixel that is laid: what its readers ask, and what is done to it.
-use Rattle.std.specs.Prelude.{cond, not, ℕ, ◌+◌, ◌*◌, ◌≤◌, ◌<◌, length, Float, Option, Some, None}
+-- A pixel that the layer is laid on again.
+use Rattle.std.specs.Prelude.{List, ℕ}
+use Rattle.calls.specs.Lent.{plane_of}
 use Rattle.rules.specs.declared.Model.{Model}
-use Rattle.rules.specs.Forms.{Plane}
 use Rattle.rules.specs.Float.{float, pixel}
-use Rattle.rules.specs.Model.{is_plain}
+use Rattle.rules.specs.Reading.{at}
 use Rattle.rules.specs.Unpeel.{relaid}
+use Rattle.layer_lent.specs.declared.Shape.{Shape}
 
--- a byte of a plane
-abbrev pub ByteIn : Plane → (x y : ℕ) → Type 0
-ByteIn p x y = (x ≤ 65536) × (y ≤ 65536) × (p.pitch ≤ 65536) × (y * p.pitch + x < length p.bytes)
-
--- its byte, by its model and bytes
-abbrev pub byte_of : Model → (first second time : Float) → (old : ℕ) → ℕ
-byte_of m first second time old = pixel (relaid m first second time (float old))
-
--- and what is done to it
-abbrev pub change_of : Model → (first second time : Float) → (old : ℕ) → Option ℕ
-change_of m first second time old = cond (not (is_plain m)) (Some (byte_of m first second time old)) None
+-- its byte, by its model and the bytes of the frames and of the output
+abbrev pub byte_by : Shape → (first second : List ℕ) → Model → (x y old : ℕ) → ℕ
+byte_by s first second m x y old =
+    pixel (relaid m (at (plane_of first s.first_pitch) x y) (at (plane_of second s.second_pitch) x y) s.time (float old))

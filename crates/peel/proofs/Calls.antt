@@ -13,9 +13,10 @@ use Rattle.laws.proofs.Accepted.{both}
 use Rattle.laws.proofs.Answered.{stays, goes, answers_refused, answers_count}
 use Rattle.plane.specs.Done.{RowsDone}
 use Rattle.motion_limits.proofs.Accepted.{plane_in}
+use Rattle.layer_lent.specs.declared.Plan.{Plan}
 use Rattle.layer_lent.specs.declared.Shape.{Shape}
 use Rattle.layer_lent.specs.Lent.{Bytes, lay, output_by, first_by, second_by, ratio_of, plan_of, Planned, Sound, Held}
-use Rattle.lift_pixel.specs.Works.{Over, Framed}
+use Rattle.sample.specs.Points.{PlaneFits}
 use Rattle.lift_rows.specs.Rows.{RowsAsk}
 use Rattle.layer_refuse.specs.Rows.{peel_by, unpeel_by}
 use Rattle.layer_refuse.proofs.Accepted.{accepted}
@@ -38,10 +39,15 @@ ran number rule width height pitch before left n z low done =
       few = omega (arith, done.few);
     }
 
+-- a byte plane over the plane that is worked on
+abbrev Over : Plan → (raw : List ℕ) → (pitch : ℕ) → Type 0
+Over p raw pitch = PlaneFits raw pitch p.across p.down
+
 -- what a pass asks of a layer and its byte planes
 pub record Runs (s : Shape) (held : Held) (frames : Bytes) (output : List ℕ) : Type 0 where
   pub sound : Sound (plan_of s) held
-  pub framed : Framed (plan_of s) (slice frames 0) (slice frames 1)
+  pub first : Over (plan_of s) (slice frames 0) s.first_pitch
+  pub second : Over (plan_of s) (slice frames 1) s.second_pitch
   pub room : RowsAsk (plan_of s) output
 
 module _ (s : Shape) (held : Held) (output : List ℕ) where
@@ -87,10 +93,8 @@ module _ (s : Shape) (held : Held) (output : List ℕ) where
       let m' = both (long first) (long second && true) m.1 in (
         record {
           sound = t.sound;
-          framed = record {
-            first = fits h first n'.0 m'.0;
-            second = fits h second (both (narrow second) true n'.1).0 (both (long second) true m'.1).0;
-          };
+          first = fits h first n'.0 m'.0;
+          second = fits h second (both (narrow second) true n'.1).0 (both (long second) true m'.1).0;
           room = room h n.0 m.0;
         },
         t.more,

@@ -4,8 +4,8 @@
 
 ghost use Rattle.peel.specs.Call.{peel_of, unpeel_of, Peeled, Unpeeled};
 
-use layer_lent::{Lent, Shape};
-use lift_pixel::{Peel, Unpeel};
+use layer_lent::{Lent, Seen, Shape, Sheet};
+use lift_straight::Unpeel;
 use rules::Refusal;
 
 // Peels a plane. The pitches of the shape's frames are not looked at: those of the byte planes stand beside them.
@@ -23,7 +23,9 @@ pub fn peel<L: Lent>(
     over.second_pitch = pitch;
     layer_refuse::peel_refusal(over, layer, output, [raw, raw])?;
     let plan = layer_lent::planned(over);
-    Ok(lift_rows::rows(output, Peel { raw }, plan, layer))
+    let sheet = Sheet { layer, plan };
+    let seen = Seen { sheet, raw, pitch };
+    Ok(lift_rows::rows(output, seen))
 }
 
 // Unpeels one. Here too they stand beside the planes.
@@ -43,6 +45,11 @@ pub fn unpeel<'o, 'f, L: Lent>(
     over.second_pitch = second_pitch;
     layer_refuse::unpeel_refusal(over, layer, output, [first, second])?;
     let plan = layer_lent::planned(over);
-    let work = Unpeel { first, second };
-    Ok(lift_rows::rows(output, work, plan, layer))
+    let sheet = Sheet { layer, plan };
+    let work = Unpeel {
+        sheet,
+        first,
+        second,
+    };
+    Ok(lift_rows::rows(output, work))
 }

@@ -5,7 +5,6 @@ use mathlib.Core.List.{List, [], ◌∷◌}
 use Prim.Native.Nat.{ℕ, ◌/◌, ◌≤◌}
 use native.Mathlib.Omega.{arith}
 use lib.IntN.{ℤ}
-use lib.ListN.{get_or}
 use Rattle.std.specs.Prelude.{Ok, Err}
 use Rattle.rules.specs.declared.Refusal.{Refusal}
 use Rattle.rules.specs.Calls.{RenderCall}
@@ -19,18 +18,19 @@ use Rattle.plane.specs.Done.{RowsDone}
 use Rattle.plane.specs.Slices.{slice}
 use Rattle.sample.specs.Points.{PlaneFits}
 use Rattle.layer_lent.specs.declared.Shape.{Shape}
-use Rattle.layer_lent.specs.Lent.{Bytes, lay, output_by, first_by, second_by, frames_by, ratio_of, plan_of, Held, Planned}
+use Rattle.layer_lent.specs.Lent.{Bytes, lay, output_by, first_by, second_by, frames_by, ratio_of, plan_of, Held, Planned, Sound}
 use Rattle.lift_rows.specs.Rows.{RowsAsk}
 use Rattle.layer_refuse.proofs.Accepted.{accepted}
 use Rattle.motion.specs.declared.Grid.{Grid}
 use Rattle.motion.specs.Moves.{motion_of, Moves}
 use Rattle.motion_limits.proofs.Accepted.{plane_in, moves_in}
-use Rattle.render_pixel.specs.Shown.{Framed}
 use Rattle.render.specs.Call.{render_by, Rendered}
 
 -- what a call needs to be run
 pub record Runs (s : Shape) (held : Held) (frames fields : Bytes) (output : List ℕ) (g : Grid) : Type 0 where
-  pub framed : Framed (plan_of s) held frames
+  pub sound : Sound (plan_of s) held
+  pub first_lies : PlaneFits (slice frames 0) s.first_pitch (plan_of s).across (plan_of s).down
+  pub second_lies : PlaneFits (slice frames 1) s.second_pitch (plan_of s).across (plan_of s).down
   pub moves : Moves fields g (plan_of s).span
   pub room : RowsAsk (plan_of s) output
 
@@ -47,7 +47,6 @@ three a b c e =
     (t.0, u.0, (both c true u.1).0)
 
 module _ (s : Shape) (held : Held) (frames fields : Bytes) (output : List ℕ) (g : Grid) (algo : ℤ)
-    (first_small : (k : ℕ) → get_or (slice frames 0) k 0 ≤ 255) (second_small : (k : ℕ) → get_or (slice frames 1) k 0 ≤ 255)
     (e : 0 ≡ render_refusal (render_by s held output frames fields g algo)) where
   abbrev motion : Motion
   motion = motion_of fields g
@@ -79,12 +78,9 @@ module _ (s : Shape) (held : Held) (frames fields : Bytes) (output : List ℕ) (
       let over = fits s h (output_by s output) n.0 m.0 in
       let ok = row_right rest refl t.more in
       record {
-        framed = record {
-          first_ready = record { sound = t.sound; fits = fits s h (first_by s frames) n.1 m.1 };
-          second_ready = record { sound = t.sound; fits = fits s h (second_by s frames) n.2 m.2 };
-          first_small = first_small;
-          second_small = second_small;
-        };
+        sound = t.sound;
+        first_lies = fits s h (first_by s frames) n.1 m.1;
+        second_lies = fits s h (second_by s frames) n.2 m.2;
         moves = moves_in fields g (plan_of s).span h.span.1 (ok 0 _ refl) (ok 1 _ refl);
         room = record { apart = over.apart; long = over.long };
       }

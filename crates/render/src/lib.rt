@@ -5,8 +5,9 @@ ghost use Rattle.std.specs.Prelude.{◌≡◌, [], ◌∷◌, ℤ};
 ghost use Rattle.rules.specs.Refusals.{render_refusal, numbered};
 ghost use Rattle.render.specs.Call.{render_by, Rendered};
 
-use layer_lent::{Lent, Shape};
+use layer_lent::{Lent, Seen, Shape, Sheet};
 use motion::{Grid, Lattice, Motion};
+use render_pixel::Frames;
 use render_rows::Job;
 use rules::Refusal;
 
@@ -40,8 +41,7 @@ pub fn render<'o, 'f, 'm, L: Lent>(
     ensures { let frames = first.entry ∷ second.entry ∷ [] in
         Rendered (render_by shape (L.held layer) output.old frames fields.entry grid algo) output.new result }
 {
-    let frames = [first, second];
-    tested(shape, layer, output, frames, fields, grid)?;
+    tested(shape, layer, output, [first, second], fields, grid)?;
     let far = motion_far::far(fields, grid);
     let plan = layer_lent::planned(shape);
     let lattice = Lattice {
@@ -49,11 +49,24 @@ pub fn render<'o, 'f, 'm, L: Lent>(
         ratio: plan.span,
     };
     let motion = Motion { fields, lattice };
+    let sheet = Sheet { layer, plan };
+    let frames = Frames {
+        first: Seen {
+            sheet,
+            raw: first,
+            pitch: shape.first_pitch,
+        },
+        second: Seen {
+            sheet,
+            raw: second,
+            pitch: shape.second_pitch,
+        },
+    };
     let job = Job {
+        frames,
+        motion,
         algo,
         far,
-        plan,
-        motion,
     };
-    Ok(render_rows::render_rows(output, job, layer, frames))
+    Ok(job.rows(output))
 }

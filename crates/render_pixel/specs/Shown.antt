@@ -1,5 +1,5 @@
--- A pixel that moves by given steps: what its readers ask, and the byte that is put there.
-use Rattle.std.specs.Prelude.{ℕ, ◌≤◌, ℤ, get_or, Float}
+-- A pixel that moves by given steps: the byte that is put there.
+use Rattle.std.specs.Prelude.{ℕ, ℤ, Float}
 use Rattle.rules.specs.declared.Model.{Model}
 use Rattle.rules.specs.declared.Steps.{Steps}
 use Rattle.rules.specs.Forms.{Layer, Frames}
@@ -8,17 +8,6 @@ use Rattle.rules.specs.Reading.{texel, at}
 use Rattle.rules.specs.Scene.{value, lifted}
 use Rattle.rules.specs.Peel.{layered}
 use Rattle.rules.specs.Render.{moved, between, base, composed}
-use Rattle.layer_lent.specs.declared.Plan.{Plan}
-use Rattle.layer_lent.specs.Lent.{Bytes, Held}
-use Rattle.plane.specs.Slices.{slice}
-use Rattle.layer_point.specs.Points.{LiesOver}
-
--- one plane of each frame, over a layer
-pub record Framed (p : Plan) (held : Held) (frames : Bytes) : Type 0 where
-  pub first_ready : LiesOver p held (slice frames 0) p.shape.first_pitch
-  pub second_ready : LiesOver p held (slice frames 1) p.shape.second_pitch
-  pub first_small : (k : ℕ) → get_or (slice frames 0) k 0 ≤ 255
-  pub second_small : (k : ℕ) → get_or (slice frames 1) k 0 ≤ 255
 
 -- both bytes of a pixel, lifted by its model and mixed
 abbrev pub base_by : Model → (first second time : Float) → Float

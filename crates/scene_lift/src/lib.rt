@@ -1,9 +1,10 @@
 // Scene values: what a model makes of a sample, and the mean of a ring.
 #![tactic(auto)]
 
-ghost use Rattle.std.specs.Prelude.{◌≡◌, MatchOption};
+ghost use Rattle.std.specs.Prelude.{◌≡◌, ◌≤◌, ℕ, MatchOption};
 ghost use Rattle.rules.specs.Scene.{value as value_of, lift as lift_of, lifted as lifted_of, gathered, mean_or};
 ghost use Rattle.rules.specs.Unpeel.{relaid as relaid_of};
+ghost use Rattle.scene_lift.specs.Means.{means, Makes};
 
 use rules::{Model, Ring, Scene};
 
@@ -56,6 +57,19 @@ pub fn mean(ring: Ring) -> Option<f32>
     } else {
         None
     }
+}
+
+// A raw value, filled from the first of its three rings that has any.
+pub fn filled<F: Fn(usize) -> Ring + Copy>(ring: F, value: f32) -> Scene
+    requires { (n : ℕ) → 1 ≤ n → n ≤ 3 → F.pre ring n }
+    ensures { (rings : ℕ → Ring) → Makes (F.post ring) rings → result ≡ means rings 3 (Scene.Raw value) }
+{
+    for times in 1..=3 {
+        if let Some(mean) = mean(ring(times)) {
+            return Scene::Lifted(mean);
+        }
+    }
+    Scene::Raw(value)
 }
 
 // A pixel under the layer again: own bytes mixed, or the middle scene value with the layer on it. Both are made, and

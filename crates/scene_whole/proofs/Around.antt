@@ -1,5 +1,5 @@
 -- The rings of a pixel are those of its coordinates as floats. Assumes nothing.
-use mathlib.Core.Path.{◌≡◌, refl, ◌∙◌}
+use mathlib.Core.Path.{◌≡◌, refl}
 use mathlib.Core.Bool.{Bool, true, false, cond, ◌&&◌}
 use mathlib.Core.List.{List}
 use Prim.Native.Nat.{ℕ, zero, suc, ◌+◌, ◌-◌, ◌*◌, ◌/◌, ◌%◌, ◌≤◌, ◌<◌, min}
@@ -10,17 +10,17 @@ use lib.IntN.{ℤ, pos}
 use lib.ListN.{get_or}
 use lib.Ieee.{Float, binary32, of_bits, of_int, div}
 use Rattle.rules.specs.declared.Ring.{Ring}
-use Rattle.rules.specs.declared.Scene.{Scene}
 use Rattle.rules.specs.declared.Scene.TheVariants.{Raw}
 use Rattle.rules.specs.Forms.{Layer, Plane, plane_ratio, plane_size, turns}
 use Rattle.rules.specs.Literals.{0·0, 4·0}
 use Rattle.rules.specs.Float.{◌⊕◌, ◌⊗◌, ◌⊘◌, float}
 use Rattle.rules.specs.Reading.{held_to}
-use Rattle.rules.specs.Scene.{sign, under, point, stepped, ring, mean_or, filled}
+use Rattle.rules.specs.Scene.{sign, under, point, stepped, ring, filled}
 use Rattle.laws.proofs.Whole.{mul_int}
+use Rattle.scene_lift.specs.Means.{means}
 use Rattle.layer_lent.specs.declared.Plan.{Plan}
-use Rattle.layer_lent.specs.Lent.{holding, Planned, Inside}
-use Rattle.scene_whole.specs.Rings.{held_at, seen, gathered_on, row_ring, whole_ring, means}
+use Rattle.layer_lent.specs.Lent.{holding, ratio_of, Planned, Inside}
+use Rattle.scene_whole.specs.Rings.{held_at, seen, gathered_on, row_ring, whole_ring}
 use Rattle.laws.proofs.Points.{model_whole}
 use Rattle.scene_whole.proofs.Points.{sample_whole}
 use Rattle.scene_whole.proofs.Moved.{held_left, held_middle, held_right}
@@ -107,35 +107,26 @@ module _ (l : Layer) (plane : ℕ) (raw : Plane) (small : (k : ℕ) → get_or r
         rw (quarter (plane_ratio l plane) low high power, mul_int binary32 (pos radius) times some (omega arith) (omega arith))
         (ring_is x y (radius * times) (omega arith) (omega arith) left above wide tall)
 
-    pub filled_is : (v : Float) → filled l plane raw (float x) (float y) (Raw v) ≡ means l plane raw (plane_size l plane) x y radius 3 (Raw v)
+    pub filled_is : (v : Float) → filled l plane raw (float x) (float y) (Raw v)
+        ≡ means (λ times. whole_ring l plane raw (plane_size l plane) x y (radius * times) 3) 3 (Raw v)
     unfolding filled means
     filled_is v = rw (ring_whole 1 (lit≤ tt) (lit≤ tt), ring_whole 2 (lit≤ tt) (lit≤ tt), ring_whole 3 (lit≤ tt) (lit≤ tt))
 
--- ---- from ring to ring
-
-means_from : (l : Layer) (plane : ℕ) (raw : Plane) (size : ℕ × ℕ) (x y radius times : ℕ) (other : Scene) → 1 ≤ times → times ≤ 3
-    → means l plane raw size x y radius (4 - times) other
-    ≡ mean_or (whole_ring l plane raw size x y (radius * times) 3) (means l plane raw size x y radius (4 - (times + 1)) other)
-unfolding means
-means_from l plane raw size x y radius zero other low high = absurd (omega arith)
-means_from l plane raw size x y radius (suc zero) other low high = refl
-means_from l plane raw size x y radius (suc (suc zero)) other low high = refl
-means_from l plane raw size x y radius (suc (suc (suc zero))) other low high = refl
-means_from l plane raw size x y radius (suc (suc (suc (suc n)))) other low high = absurd (omega arith)
-
--- by what a ring's mean is, or with the other where it has none
-pub means_by : (l : Layer) (plane : ℕ) (raw : Plane) (size : ℕ × ℕ) (x y radius times : ℕ) (other : Scene) (r : Ring) (z : Scene) → 1 ≤ times → times ≤ 3
-    → r ≡ whole_ring l plane raw size x y (radius * times) 3 → mean_or r (means l plane raw size x y radius (4 - (times + 1)) other) ≡ z
-    → means l plane raw size x y radius (4 - times) other ≡ z
-means_by l plane raw size x y radius times other r z low high e t =
-    means_from l plane raw size x y radius times other low high ∙ rw (← e) t
-
 -- ---- over the plane of a plan
+
+-- half a cell's side is 4 luma pixels
+half : (n : ℕ) → n ≤ 4 → 8 / n / 2 ≡ 4 / n
+half zero h = refl
+half (suc zero) h = refl
+half (suc (suc zero)) h = refl
+half (suc (suc (suc zero))) h = refl
+half (suc (suc (suc (suc zero)))) h = refl
+half (suc (suc (suc (suc (suc n))))) h = absurd (omega arith)
 
 module _ (p : Plan) (luma first second : List ℤ) (raw : Plane) (x y : ℕ) (h : Planned p) (i : Inside p x y) (small : (k : ℕ) → get_or raw.bytes k 0 ≤ 255) where
   pub planned_filled : (v : Float) → filled (holding p.shape luma first second) p.shape.plane raw (float x) (float y) (Raw v)
-      ≡ means (holding p.shape luma first second) p.shape.plane raw (p.across, p.down) x y (4 / p.span) 3 (Raw v)
+      ≡ means (λ times. whole_ring (holding p.shape luma first second) p.shape.plane raw (p.across, p.down) x y (p.side / 2 * times) 3) 3 (Raw v)
   planned_filled v =
-      rw h.is
+      rw (h.is, half (ratio_of p.shape) (rw h.is at h.span.1))
       (filled_is (holding p.shape luma first second) p.shape.plane raw small x y (rw h.is at i.left) (rw h.is at i.above)
       (rw h.is at h.wide.1) (rw h.is at h.tall.1) (rw h.is at h.span.0) (rw h.is at h.span.1) (rw h.is at h.power) v)

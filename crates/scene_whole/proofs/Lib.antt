@@ -1,5 +1,4 @@
 pub mod Bytes
 pub mod Points
 pub mod Moved
-pub mod Gathers
 pub mod Around

@@ -1,20 +1,14 @@
 -- The scene at whole points: rings whose columns and rows are whole numbers.
-use Rattle.std.specs.Prelude.{cond, ◌&&◌, List, ℕ, zero, suc, ◌+◌, ◌-◌, ◌*◌, min, eqb}
+use Rattle.std.specs.Prelude.{cond, ◌&&◌, ℕ, ◌+◌, ◌-◌, min, eqb}
 use Rattle.rules.specs.declared.Ring.{Ring}
 use Rattle.rules.specs.declared.Scene.{Scene}
 use Rattle.rules.specs.Forms.{Layer, Plane, turns}
 use Rattle.rules.specs.Literals.{0·0}
 use Rattle.rules.specs.Reading.{at, texel}
-use Rattle.rules.specs.Scene.{lifted, gathered, mean_or}
+use Rattle.rules.specs.Scene.{lifted, gathered}
 use Rattle.layer_lent.specs.declared.Plan.{Plan}
-use Rattle.layer_lent.specs.Lent.{lay, Sound, Held}
-use Rattle.sample.specs.Points.{PlaneFits}
+use Rattle.layer_lent.specs.Lent.{lay, Held}
 use Rattle.scene_whole.specs.declared.Band.{Band}
-
--- a layer, and a byte plane over the plane that is worked on
-pub record SoundOver (p : Plan) (held : Held) (raw : List ℕ) (pitch : ℕ) : Type 0 where
-  pub sound : Sound p held
-  pub fits : PlaneFits raw pitch p.across p.down
 
 -- x a radius back, where it is, or a radius on, held to 0 .. size - 1
 abbrev pub held_at : (x k radius size : ℕ) → ℕ
@@ -44,9 +38,3 @@ band_on p held raw b r = row_ring (lay p.shape held) p.shape.plane raw p.across 
 unfoldable pub whole_ring : Layer → (plane : ℕ) → (raw : Plane) → (size : ℕ × ℕ) → (x y radius rows : ℕ) → Ring
 whole_ring l plane raw size x y radius rows =
     turns (λ down. row_ring l plane raw size.0 x (held_at y down radius size.1) radius down 3) rows (record { total = 0·0; count = 0·0 })
-
--- the mean of the first with any of the last rings, as many as are left, or else the other
-unfoldable pub means : Layer → (plane : ℕ) → (raw : Plane) → (size : ℕ × ℕ) → (x y radius left : ℕ) → Scene → Scene
-means l plane raw size x y radius zero other = other
-means l plane raw size x y radius (suc n) other =
-    mean_or (whole_ring l plane raw size x y (radius * (3 - n)) 3) (means l plane raw size x y radius n other)

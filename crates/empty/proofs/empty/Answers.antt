@@ -8,9 +8,12 @@ use Rattle.empty.proofs.empty.Goals as goal
 
 pub rows_unmarked-requires : goal.rows_unmarked-requires
 rows_unmarked-requires g c =
-    let a = c.args in
     rw (c.planned-plan.ensures, c.cells-width.ensures, c.cells-height.ensures)
-    (in_rows _ (g.L.Lent.held a.layer) refl (sym c.in_ok-empty_refusal.ensures))
+    (in_rows _ (g.L.Lent.held c.args.layer) refl (sym c.in_ok-empty_refusal.ensures)).1
+
+pub invariant_of-rows_unmarked : goal.invariant_of-rows_unmarked
+invariant_of-rows_unmarked g c =
+    record { sound = rw c.planned-plan.ensures (in_rows _ (g.L.Lent.held c.args.layer) refl (sym c.in_ok-empty_refusal.ensures)).0 }
 
 pub returns-in_err-empty_refusal : goal.returns-in_err-empty_refusal
 returns-in_err-empty_refusal g c =

@@ -4,4 +4,4 @@ use Rattle.lift_count.specs.Counts.{RowsCounted}
 use Rattle.lift_count.proofs.count.Given as goal
 
 abbrev pub invariant-loop-y : goal.invariant-loop-y
-invariant-loop-y g l = RowsCounted (lay l.plan.shape (g.L.Lent.held l.layer)) l.plan.shape.plane l.plan.across l.y l.n
+invariant-loop-y g l = RowsCounted (lay l.fn.sheet.plan.shape (g.L.Lent.held l.fn.sheet.layer)) l.fn.sheet.plan.shape.plane l.fn.sheet.plan.across l.y l.n

@@ -1,15 +1,15 @@
--- The invariant and the measure of `lift_count::row`.
-use Prim.Native.Nat.{◌-◌, ◌≤◌}
+-- The invariant of `lift_count::row`: the row is counted up to the cells that are still ahead.
+use mathlib.Core.Path.{◌≡◌}
 use Rattle.layer_lent.specs.Lent.{lay}
+use Rattle.lift_rows.specs.Stretches.{column}
 use Rattle.lift_count.specs.Counts.{RowCounted}
 use Rattle.lift_count.proofs.row.Given as goal
 
-abbrev pub invariant-loop-x : goal.invariant-loop-x
-invariant-loop-x g l =
+abbrev pub invariant-loop-stretch : goal.invariant-loop-stretch
+invariant-loop-stretch g l =
+    let s = l.fn.sheet in
     record {
-      counted : RowCounted (lay l.plan.shape (g.L.Lent.held l.layer)) l.plan.shape.plane l.y l.x l.count l.n;
-      within : l.x ≤ l.plan.across;
+      over : l.stretch-iterator.over ≡ s;
+      y : l.stretch-iterator.y ≡ l.y;
+      counted : RowCounted (lay s.plan.shape (g.L.Lent.held s.layer)) s.plan.shape.plane l.y (column s.plan l.stretch-iterator.cell) l.count l.counted;
     }
-
-abbrev pub decreases-loop-x : goal.decreases-loop-x
-decreases-loop-x g l = l.plan.across - l.x

@@ -7,7 +7,7 @@ use Rattle.lift_count.proofs.writes.Goals as goal
 pub returns : goal.returns
 returns g c =
     let d = c.distance in
-    let held = g.L.Lent.held c.args.layer in
+    let held = g.L.Lent.held c.args.sheet.layer in
     rw c.plain.ensures
-    (layered_is c.args.plan.shape (held 0) (held 1) _ c.args.plan.shape.plane c.args.x c.args.y
+    (layered_is c.args.sheet.plan.shape (held 0) (held 1) _ c.args.sheet.plan.shape.plane c.args.x c.args.y
     d.ensures (rw (back w16 d.result d.type_inv) at c.near-near.ensures) c.texel-model.ensures)

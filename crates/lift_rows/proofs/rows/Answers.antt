@@ -10,26 +10,23 @@ loop-y-init g c = record { done = rows_none _ _ _ _; long = refl }
 
 pub row-count-requires : goal.row-count-requires
 row-count-requires g c =
-    let h = c.requires.sound.planned in
-    let asks = c.requires.room in
+    let p = g.W.Over.plan c.args.work in
+    let h = (g.met.W.Over.sound c.args.work).planned in
+    let asks = c.requires in
     let at-loop = c.loop-y in
-    let below = c.loop-y-test.true in
-    let room = row_in at-loop.y c.args.plan.down c.args.plan.shape.output_pitch c.args.plan.across _ below asks.long in
+    let below = rw c.sheet-y-end.ensures.plan at c.loop-y-test.true in
+    let room = row_in at-loop.y p.down p.shape.output_pitch p.across _ below asks.long in
     record {
-      sound = c.requires.sound;
-      frames = c.requires.frames;
-      room = record {
-        above = below;
-        narrow = asks.apart.1;
-        room = omega (arith, room, at-loop.invariant.long);
-        few = omega (arith, at-loop.invariant.done.few, below, h.tall.1);
-      };
+      above = below;
+      narrow = asks.apart.1;
+      room = omega (arith, room, at-loop.invariant.long);
+      few = omega (arith, at-loop.invariant.done.few, below, h.tall.1);
     }
 
 pub loop-y-preserved : goal.loop-y-preserved
 loop-y-preserved g c =
     let inv = c.loop-y.invariant in
     record {
-      done = rows_more c.requires.sound.planned.wide.1 inv.done c.row-count.ensures;
+      done = rows_more (g.met.W.Over.sound c.args.work).planned.wide.1 inv.done c.row-count.ensures;
       long = c.row-count.auto.output ∙ inv.long;
     }

@@ -8,6 +8,7 @@ use Rattle.lift_rows.proofs.rows.Given as goal
 abbrev pub invariant-loop-y : goal.invariant-loop-y
 invariant-loop-y g l =
     record {
-      done : RowsDone (rule_of (g.W.Work.byte l.work) l.plan.shape (g.L.Lent.held l.layer)) l.plan.across l.y l.plan.shape.output_pitch l.initial.output l.output l.count;
+      done : RowsDone (rule_of (g.W.Work.byte l.work) (g.W.Over.plan l.work).shape (g.W.Over.held l.work)) (g.W.Over.plan l.work).across l.y
+          (g.W.Over.plan l.work).shape.output_pitch l.initial.output l.output l.count;
       long : length l.output ≡ length l.initial.output;
     }

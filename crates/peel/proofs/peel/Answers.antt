@@ -7,11 +7,23 @@ use Rattle.layer_lent.specs.Lent.{framed}
 use Rattle.peel.proofs.Calls.{refused, ran, peel_runs}
 use Rattle.peel.proofs.peel.Goals as goal
 
+pub invariant_of-sheet : goal.invariant_of-sheet
+invariant_of-sheet g c =
+    let a = c.args in
+    let r = peel_runs (framed a.shape a.pitch a.pitch) (g.L.Lent.held a.layer) a.output.now (a.raw ∷ a.raw ∷ []) (sym c.in_ok-peel_refusal.ensures) in
+    rw c.planned-plan.ensures (record { sound = r.0 })
+
+pub invariant_of-seen : goal.invariant_of-seen
+invariant_of-seen g c =
+    let a = c.args in
+    let r = peel_runs (framed a.shape a.pitch a.pitch) (g.L.Lent.held a.layer) a.output.now (a.raw ∷ a.raw ∷ []) (sym c.in_ok-peel_refusal.ensures) in
+    rw c.planned-plan.ensures (record { lies = r.1 })
+
 pub rows-requires : goal.rows-requires
 rows-requires g c =
     let a = c.args in
     let r = peel_runs (framed a.shape a.pitch a.pitch) (g.L.Lent.held a.layer) a.output.now (a.raw ∷ a.raw ∷ []) (sym c.in_ok-peel_refusal.ensures) in
-    rw c.planned-plan.ensures (record { sound = r.0; frames = r.1; room = r.2 })
+    rw c.planned-plan.ensures r.2
 
 pub returns-in_err-peel_refusal : goal.returns-in_err-peel_refusal
 returns-in_err-peel_refusal g c =

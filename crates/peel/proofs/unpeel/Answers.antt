@@ -7,11 +7,23 @@ use Rattle.layer_lent.specs.Lent.{framed}
 use Rattle.peel.proofs.Calls.{refused, ran, unpeel_runs}
 use Rattle.peel.proofs.unpeel.Goals as goal
 
+pub invariant_of-sheet : goal.invariant_of-sheet
+invariant_of-sheet g c =
+    let a = c.args in
+    let r = unpeel_runs (framed a.shape a.first_pitch a.second_pitch) (g.L.Lent.held a.layer) a.output.now (a.first ∷ a.second ∷ []) (sym c.in_ok-unpeel_refusal.ensures) in
+    rw c.planned-plan.ensures (record { sound = r.sound })
+
+pub invariant_of-work : goal.invariant_of-work
+invariant_of-work g c =
+    let a = c.args in
+    let r = unpeel_runs (framed a.shape a.first_pitch a.second_pitch) (g.L.Lent.held a.layer) a.output.now (a.first ∷ a.second ∷ []) (sym c.in_ok-unpeel_refusal.ensures) in
+    rw c.planned-plan.ensures (record { first_lies = r.first; second_lies = r.second })
+
 pub rows-requires : goal.rows-requires
 rows-requires g c =
     let a = c.args in
     let r = unpeel_runs (framed a.shape a.first_pitch a.second_pitch) (g.L.Lent.held a.layer) a.output.now (a.first ∷ a.second ∷ []) (sym c.in_ok-unpeel_refusal.ensures) in
-    rw c.planned-plan.ensures (record { sound = r.sound; frames = r.framed; room = r.room })
+    rw c.planned-plan.ensures r.room
 
 pub returns-in_err-unpeel_refusal : goal.returns-in_err-unpeel_refusal
 returns-in_err-unpeel_refusal g c =

@@ -16,42 +16,57 @@ returns-in_err-tested g c =
 pub far-far-requires : goal.far-far-requires
 far-far-requires g c =
     let a = c.args in
-    let r = runs a.shape (g.L.Lent.held a.layer) (a.first ∷ a.second ∷ []) a.fields a.output.now a.grid a.algo
-    (λ k. omega (arith, c.type_inv.first k)) (λ k. omega (arith, c.type_inv.second k)) (c.in_ok-tested.ensures a.algo) in
+    let r = runs a.shape (g.L.Lent.held a.layer) (a.first ∷ a.second ∷ []) a.fields a.output.now a.grid a.algo (c.in_ok-tested.ensures a.algo) in
     r.moves.laid.parts
 
 pub invariant_of-lattice : goal.invariant_of-lattice
 invariant_of-lattice g c =
     let a = c.args in
-    let r = runs a.shape (g.L.Lent.held a.layer) (a.first ∷ a.second ∷ []) a.fields a.output.now a.grid a.algo
-    (λ k. omega (arith, c.type_inv.first k)) (λ k. omega (arith, c.type_inv.second k)) (c.in_ok-tested.ensures a.algo) in
+    let r = runs a.shape (g.L.Lent.held a.layer) (a.first ∷ a.second ∷ []) a.fields a.output.now a.grid a.algo (c.in_ok-tested.ensures a.algo) in
     rw c.planned-plan.ensures (record { laid = r.moves.laid })
 
 pub invariant_of-motion : goal.invariant_of-motion
 invariant_of-motion g c =
     let a = c.args in
-    let r = runs a.shape (g.L.Lent.held a.layer) (a.first ∷ a.second ∷ []) a.fields a.output.now a.grid a.algo
-    (λ k. omega (arith, c.type_inv.first k)) (λ k. omega (arith, c.type_inv.second k)) (c.in_ok-tested.ensures a.algo) in
+    let r = runs a.shape (g.L.Lent.held a.layer) (a.first ∷ a.second ∷ []) a.fields a.output.now a.grid a.algo (c.in_ok-tested.ensures a.algo) in
     rw c.planned-plan.ensures (record { moves = r.moves })
 
-pub render_rows-requires-clause-works : goal.render_rows-requires-clause-works
-render_rows-requires-clause-works g c =
+pub invariant_of-sheet : goal.invariant_of-sheet
+invariant_of-sheet g c =
     let a = c.args in
-    let r = runs a.shape (g.L.Lent.held a.layer) (a.first ∷ a.second ∷ []) a.fields a.output.now a.grid a.algo
-    (λ k. omega (arith, c.type_inv.first k)) (λ k. omega (arith, c.type_inv.second k)) (c.in_ok-tested.ensures a.algo) in
-    record { framed = rw c.planned-plan.ensures r.framed; span = refl; far_is = c.far-far.ensures }
+    let r = runs a.shape (g.L.Lent.held a.layer) (a.first ∷ a.second ∷ []) a.fields a.output.now a.grid a.algo (c.in_ok-tested.ensures a.algo) in
+    rw c.planned-plan.ensures (record { sound = r.sound })
 
-pub render_rows-requires-clause-room : goal.render_rows-requires-clause-room
-render_rows-requires-clause-room g c =
+pub invariant_of-frames : goal.invariant_of-frames
+invariant_of-frames g c =
     let a = c.args in
-    let r = runs a.shape (g.L.Lent.held a.layer) (a.first ∷ a.second ∷ []) a.fields a.output.now a.grid a.algo
-    (λ k. omega (arith, c.type_inv.first k)) (λ k. omega (arith, c.type_inv.second k)) (c.in_ok-tested.ensures a.algo) in
+    let r = runs a.shape (g.L.Lent.held a.layer) (a.first ∷ a.second ∷ []) a.fields a.output.now a.grid a.algo (c.in_ok-tested.ensures a.algo) in
+    rw c.planned-plan.ensures (record { lies = r.first_lies })
+
+pub invariant_of-frames-2 : goal.invariant_of-frames-2
+invariant_of-frames-2 g c =
+    let a = c.args in
+    let r = runs a.shape (g.L.Lent.held a.layer) (a.first ∷ a.second ∷ []) a.fields a.output.now a.grid a.algo (c.in_ok-tested.ensures a.algo) in
+    rw c.planned-plan.ensures (record { lies = r.second_lies })
+
+pub invariant_of-frames-3 : goal.invariant_of-frames-3
+invariant_of-frames-3 g c =
+    record {
+      layer = refl;
+      plan = refl;
+      first_small = λ k. omega (arith, c.type_inv.first k);
+      second_small = λ k. omega (arith, c.type_inv.second k);
+    }
+
+pub rows-requires : goal.rows-requires
+rows-requires g c =
+    let a = c.args in
+    let r = runs a.shape (g.L.Lent.held a.layer) (a.first ∷ a.second ∷ []) a.fields a.output.now a.grid a.algo (c.in_ok-tested.ensures a.algo) in
     rw c.planned-plan.ensures r.room
 
 pub returns : goal.returns
 returns g c =
     let a = c.args in
-    let r = runs a.shape (g.L.Lent.held a.layer) (a.first ∷ a.second ∷ []) a.fields a.output.now a.grid a.algo
-    (λ k. omega (arith, c.type_inv.first k)) (λ k. omega (arith, c.type_inv.second k)) (c.in_ok-tested.ensures a.algo) in
-    let rows = rw (c.planned-plan.ensures, to_z-of_z c.ranges.algo) at c.render_rows.ensures in
-    ran a.shape (g.L.Lent.held a.layer) a.output.now (a.first ∷ a.second ∷ []) a.fields a.grid a.algo _ _ (c.in_ok-tested.ensures a.algo) r.framed.second_ready.fits.tall.1 rows
+    let r = runs a.shape (g.L.Lent.held a.layer) (a.first ∷ a.second ∷ []) a.fields a.output.now a.grid a.algo (c.in_ok-tested.ensures a.algo) in
+    let rows = rw (c.planned-plan.ensures, to_z-of_z c.ranges.algo) at c.rows.ensures in
+    ran a.shape (g.L.Lent.held a.layer) a.output.now (a.first ∷ a.second ∷ []) a.fields a.grid a.algo _ _ (c.in_ok-tested.ensures a.algo) r.first_lies.tall.1 rows

@@ -1,14 +1,12 @@
 -- What is left to answer of `render::tested`'s goals: the rows of the byte planes, then a motion's, then the time's.
 use Rattle.std.proofs.Common.{arith}
 use Rattle.std.proofs.lemmas.Grind.{common_steps}
-use mathlib.Core.Path.{◌≡◌, sym, ◌∙◌}
-use mathlib.Core.Bool.{Bool, true, false}
+use mathlib.Core.Path.{sym, ◌∙◌}
 use mathlib.Core.List.{[], ◌∷◌}
-use Rattle.std.specs.Prelude.{Result, Ok, Err, MatchResult}
-use Rattle.rules.specs.declared.Refusal.{Refusal}
 use Rattle.rules.specs.declared.Refusal.TheVariants.{Setting}
 use Rattle.rules.specs.Domain.{is_time}
-use Rattle.rules.specs.Refusals.{Table, ◌unless◌, motion_rows, render_refusal, first_fitting, numbered}
+use Rattle.rules.specs.Refusals.{Table, ◌unless◌, motion_rows, render_refusal, first_fitting}
+use Rattle.laws.proofs.Answered.{last_row}
 use Rattle.motion.specs.Moves.{motion_of}
 use Rattle.render.proofs.tested.Goals as goal
 
@@ -24,12 +22,6 @@ returns-in_err-motion_refusal g c algo =
     let time : Table = (6 unless is_time c.args.shape.time) ∷ [] in
     grind (arith, common_steps, c.frames_rows.ensures (motion_rows (motion_of c.args.fields c.args.grid) time), c.motion_refusal.ensures time)
 
--- the last row, by whether it is passed
-last : (r : Result Unit Refusal) (b : Bool) → MatchResult r (λ _. b ≡ true) (λ e. (b ≡ false) × (e ≡ Setting)) → first_fitting ((6 unless b) ∷ []) ≡ numbered r
-unfolding first_fitting
-last (Ok u) b h = simp h
-last (Err e) b h = simp (h.0, h.1)
-
 pub returns : goal.returns
 unfolding render_refusal
 returns g c algo =
@@ -37,4 +29,4 @@ returns g c algo =
     sym (
     c.in_ok-frames_rows.ensures (motion_rows (motion_of c.args.fields c.args.grid) time)
     ∙ c.in_ok-motion_refusal.ensures time
-    ∙ rw c.timed.ensures at (last _ _ c.ensure.ensures))
+    ∙ sym (last_row Setting _ _ (rw c.timed.ensures at c.ensure.ensures)))

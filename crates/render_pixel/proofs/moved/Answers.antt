@@ -9,10 +9,11 @@ pub returns : goal.returns
 unfolding moved_of scene under
 returns g c =
     let a = c.args in
-    let h = c.requires.lies.sound.planned in
-    let l = lay a.plan.shape (g.L.Lent.held a.layer) in
-    let wide = across_is a.plan h in
-    let tall = down_is a.plan h in
+    let p = a.seen.now.sheet.plan in
+    let h = a.seen.now.sheet.sound.planned in
+    let l = lay p.shape (g.L.Lent.held a.seen.now.sheet.layer) in
+    let wide = across_is p h in
+    let tall = down_is p h in
     rw (
       c.is_on.ensures,
       c.filled.ensures,
@@ -21,8 +22,8 @@ returns g c =
       c.model_by-model.ensures,
       c.between-down.ensures.is,
       c.between-across.ensures.is,
-      model_is a.plan l a.plan.shape.plane wide tall _ _,
-      sample_is a.plan l a.plan.shape.plane wide tall _ _ _,
+      model_is p l p.shape.plane wide tall _ _,
+      sample_is p l p.shape.plane wide tall _ _ _,
       c.shifted-v.ensures.is,
       c.shifted-u.ensures.is,
       wide,

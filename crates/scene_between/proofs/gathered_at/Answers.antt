@@ -4,18 +4,19 @@ use Rattle.rules.specs.Reading.{model_at}
 use Rattle.rules.specs.Scene.{under}
 use Rattle.layer_lent.specs.Lent.{lay}
 use Rattle.layer_point.proofs.Points.{model_is, sample_is, across_is, down_is}
-use Rattle.scene_between.proofs.Means.{gathers, passes}
+use Rattle.scene_lift.proofs.Gathers.{taken, passed}
 use Rattle.scene_between.proofs.gathered_at.Goals as goal
 
 pub returns-then-abs : goal.returns-then-abs
 unfolding under
 returns-then-abs g c =
     let a = c.args in
-    let h = c.requires.sound.sound.planned in
-    let model : c.model_by-model.result ≡ model_at (lay a.plan.shape (g.L.Lent.held a.layer)) a.plan.shape.plane a.x a.y =
+    let p = a.seen.now.sheet.plan in
+    let h = a.seen.now.sheet.sound.planned in
+    let model : c.model_by-model.result ≡ model_at (lay p.shape (g.L.Lent.held a.seen.now.sheet.layer)) p.shape.plane a.x a.y =
     rw (c.model_by-model.ensures, c.between-down.ensures.is, c.between-across.ensures.is)
-    (model_is a.plan _ _ (across_is _ h) (down_is _ h) _ _) in
-    let l = lay a.plan.shape (g.L.Lent.held a.layer) in
+    (model_is p _ _ (across_is _ h) (down_is _ h) _ _) in
+    let l = lay p.shape (g.L.Lent.held a.seen.now.sheet.layer) in
     rw (
       c.added.ensures,
       c.lift.ensures,
@@ -23,16 +24,17 @@ returns-then-abs g c =
       c.between-down.ensures.is,
       c.between-across.ensures.is,
       model,
-      sample_is a.plan l a.plan.shape.plane (across_is _ h) (down_is _ h) a.x a.y _,
+      sample_is p l p.shape.plane (across_is _ h) (down_is _ h) a.x a.y _,
     )
-    (gathers _ _ _ (rw (c.abs.ensures, model) at c.if-abs.true))
+    (taken _ _ _ (rw (c.abs.ensures, model) at c.if-abs.true))
 
 pub returns-else-abs : goal.returns-else-abs
 unfolding under
 returns-else-abs g c =
     let a = c.args in
-    let h = c.requires.sound.sound.planned in
-    let model : c.model_by-model.result ≡ model_at (lay a.plan.shape (g.L.Lent.held a.layer)) a.plan.shape.plane a.x a.y =
+    let p = a.seen.now.sheet.plan in
+    let h = a.seen.now.sheet.sound.planned in
+    let model : c.model_by-model.result ≡ model_at (lay p.shape (g.L.Lent.held a.seen.now.sheet.layer)) p.shape.plane a.x a.y =
     rw (c.model_by-model.ensures, c.between-down.ensures.is, c.between-across.ensures.is)
-    (model_is a.plan _ _ (across_is _ h) (down_is _ h) _ _) in
-    passes _ _ _ (rw (c.abs.ensures, model) at c.if-abs.false)
+    (model_is p _ _ (across_is _ h) (down_is _ h) _ _) in
+    passed _ _ _ (rw (c.abs.ensures, model) at c.if-abs.false)

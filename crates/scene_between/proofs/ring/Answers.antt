@@ -8,4 +8,4 @@ use Rattle.scene_between.proofs.ring.Goals as goal
 pub returns : goal.returns
 unfolding ring_of ring_up_to
 returns g c =
-    rw (c.ring_around.ensures, c.of_size-2.ensures, c.of_size.ensures, ap (λ (q : Plan). q.span) c.requires.sound.sound.planned.is)
+    rw (c.ring_around.ensures, c.of_size-2.ensures, c.of_size.ensures, ap (λ (q : Plan). q.span) c.args.seen.now.sheet.sound.planned.is)

@@ -6,5 +6,6 @@ use Rattle.scene_between.proofs.ring_around.Given as goal
 
 abbrev pub invariant-loop-side : goal.invariant-loop-side
 invariant-loop-side g l =
-    l.grown ≡ ring_up_to (lay l.plan.shape (g.L.Lent.held l.layer)) l.plan.shape.plane (record { bytes = l.raw; pitch = l.pitch })
+    let p = l.seen.sheet.plan in
+    l.grown ≡ ring_up_to (lay p.shape (g.L.Lent.held l.seen.sheet.layer)) p.shape.plane (record { bytes = l.seen.raw.now; pitch = l.seen.pitch })
     l.circle.x l.circle.y l.circle.radius l.side

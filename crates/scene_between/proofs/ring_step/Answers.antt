@@ -12,6 +12,6 @@ returns-then-side-eq4 g c = sym (simp (eq-eqb _ _ c.if-side-eq4.true))
 pub returns : goal.returns
 unfolding stepped point
 returns g c =
-    let h = c.requires.sound.sound.planned in
+    let h = c.args.seen.now.sheet.sound.planned in
     rw (c.gathered_at.ensures, c.beside-v.ensures.is, c.beside-u.ensures.is, across_is _ h, down_is _ h)
     (sym (simp (ne_eqb _ _ c.if-side-eq4.false)))

@@ -8,7 +8,7 @@ use Rattle.rules.specs.Reading.{texel}
 use Rattle.layer_lent.specs.Lent.{lay}
 use Rattle.layer_lent.proofs.Signed.{back}
 use Rattle.scene_whole.specs.Rings.{seen}
-use Rattle.scene_whole.proofs.Gathers.{taken, passed}
+use Rattle.scene_lift.proofs.Gathers.{taken, passed}
 use Rattle.scene_whole.proofs.gathered_at.Goals as goal
 
 pub returns-then-strong : goal.returns-then-strong
@@ -17,7 +17,8 @@ returns-then-strong g c =
     let a = c.args in
     let n = c.gains-total in
     -- the test is the one of the texel's gain
-    let t : (0·2 ≼ abs (texel (lay a.plan.shape (g.L.Lent.held a.layer)) a.plan.shape.plane a.x a.y).gain) ≡ true =
+    let p = a.seen.now.sheet.plan in
+    let t : (0·2 ≼ abs (texel (lay p.shape (g.L.Lent.held a.seen.now.sheet.layer)) p.shape.plane a.x a.y).gain) ≡ true =
     rw (n.ensures.is _ _) (rw (← back w32 n.result n.type_inv) (sym c.strong.ensures ∙ c.if-strong.true)) in
     rw (c.added.ensures, c.lifted_at.ensures) (taken _ _ _ t)
 
@@ -27,6 +28,7 @@ returns-else-strong g c =
     let a = c.args in
     let n = c.gains-total in
     -- the test is the one of the texel's gain
-    let t : (0·2 ≼ abs (texel (lay a.plan.shape (g.L.Lent.held a.layer)) a.plan.shape.plane a.x a.y).gain) ≡ false =
+    let p = a.seen.now.sheet.plan in
+    let t : (0·2 ≼ abs (texel (lay p.shape (g.L.Lent.held a.seen.now.sheet.layer)) p.shape.plane a.x a.y).gain) ≡ false =
     rw (n.ensures.is _ _) (rw (← back w32 n.result n.type_inv) (sym c.strong.ensures ∙ c.if-strong.false)) in
     passed _ _ _ t

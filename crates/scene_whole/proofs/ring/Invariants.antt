@@ -6,5 +6,6 @@ use Rattle.scene_whole.proofs.ring.Given as goal
 
 abbrev pub invariant-loop-down : goal.invariant-loop-down
 invariant-loop-down g l =
-    l.grown ≡ whole_ring (lay l.plan.shape (g.L.Lent.held l.layer)) l.plan.shape.plane (record { bytes = l.raw; pitch = l.pitch })
-    (l.plan.across, l.plan.down) l.x l.y l.radius l.down
+    let p = l.seen.sheet.plan in
+    l.grown ≡ whole_ring (lay p.shape (g.L.Lent.held l.seen.sheet.layer)) p.shape.plane (record { bytes = l.seen.raw.now; pitch = l.seen.pitch })
+    (p.across, p.down) l.x l.y l.radius l.down

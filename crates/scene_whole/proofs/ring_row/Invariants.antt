@@ -6,5 +6,6 @@ use Rattle.scene_whole.proofs.ring_row.Given as goal
 
 abbrev pub invariant-loop-k : goal.invariant-loop-k
 invariant-loop-k g l =
-    l.grown ≡ row_ring (lay l.plan.shape (g.L.Lent.held l.layer)) l.plan.shape.plane (record { bytes = l.raw; pitch = l.pitch })
-    l.plan.across l.band.x l.band.row l.band.radius l.band.down l.k l.initial.grown
+    let p = l.seen.sheet.plan in
+    l.grown ≡ row_ring (lay p.shape (g.L.Lent.held l.seen.sheet.layer)) p.shape.plane (record { bytes = l.seen.raw.now; pitch = l.seen.pitch })
+    p.across l.band.x l.band.row l.band.radius l.band.down l.k l.initial.grown

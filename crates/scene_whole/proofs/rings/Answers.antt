@@ -1,28 +1,17 @@
 -- `scene_whole::rings` meets its contract. Assumes nothing.
-use mathlib.Core.Path.{◌≡◌, sym, ◌∙◌}
-use native.Mathlib.Omega.{arith}
-use Rattle.scene_whole.specs.Rings.{means}
-use Rattle.scene_whole.proofs.Around.{planned_filled, means_by}
+use mathlib.Core.Path.{sym, ◌∙◌}
+use Prim.Native.Nat.{ℕ, ◌*◌, ◌/◌}
+use Rattle.std.proofs.iter.Serving.{serving}
+use Rattle.layer_lent.specs.Lent.{lay}
+use Rattle.scene_whole.specs.Rings.{whole_ring}
+use Rattle.scene_whole.proofs.Around.{planned_filled}
 use Rattle.scene_whole.proofs.rings.Goals as goal
 
-pub loop-times-init : goal.loop-times-init
-loop-times-init g c =
-    rw c.fill_step-radius.ensures
-    (planned_filled c.args.plan _ _ _ _ _ _ c.requires.sound.sound.planned c.requires.inside (λ k. omega (arith, c.type_inv.raw k)) _)
-
-pub returns-in-Some : goal.returns-in-Some
-returns-in-Some g c =
-    let at-loop = c.loop-times in
-    sym (at-loop.invariant ∙ means_by _ _ _ _ _ _ _ _ _ _ _ at-loop.auto.times (omega arith) c.ring-ring.ensures (c.in-Some.ensures _))
-
-pub loop-times-preserved : goal.loop-times-preserved
-loop-times-preserved g c =
-    let at-loop = c.loop-times in
-    at-loop.invariant ∙ means_by _ _ _ _ _ _ _ _ _ _ _ at-loop.auto.times (omega arith) c.ring-ring.ensures (c.in_default.ensures _)
-
 pub returns : goal.returns
-unfolding means
 returns g c =
-    let at-loop = c.loop-times in
-    let e : at-loop.times ≡ 4 = omega arith in
-    sym (rw e at at-loop.invariant)
+    let s = c.args.seen in
+    let p = s.sheet.plan in
+    let rings = λ (times : ℕ). whole_ring (lay p.shape (g.L.Lent.held s.sheet.layer)) p.shape.plane (record { bytes = s.raw.now; pitch = s.pitch })
+    (p.across, p.down) c.args.x c.args.y (p.side / 2 * times) 3 in
+    c.filled.ensures rings (grind serving)
+    ∙ sym (planned_filled p _ _ _ _ _ _ s.sheet.sound.planned c.requires c.small.ensures _)
