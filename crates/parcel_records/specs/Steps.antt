@@ -20,7 +20,7 @@ pub record Begins (bytes : List ℕ) (p : Piece) (left : List ℕ) : Type 0 wher
   pub is : splits bytes ≡ (record_of p ∷ (splits left).0, (splits left).1)
   pub fewer : length left < length bytes
 
--- a call gives no record where no byte is left, a refusal and then nothing more where one is cut short, and else the first
+-- a call gives none where no byte is left, a refusal where a record is cut short, and then none, and else the first
 abbrev pub Gives : (before : Records) → Option (Result Piece Refusal) → (after : Records) → Type 0
 Gives before None after = length before.left.now ≡ 0
 Gives before (Some (Ok p)) after = Begins before.left.now p after.left.now

@@ -41,6 +41,9 @@ module _ (parcel : List ℕ) where
     unfolding lengths_right
     lengths_are = rw (held.head, eq-eqb (length p.head.now) 6 long, is)
 
+    pub wrong_sizes : are_sizes (h.width, h.height) ≡ false → lengths_right (records parcel) ≡ false
+    wrong_sizes e = lengths_are ∙ rw e
+
     -- what is told where nothing is refused
     pub told_yes : 0 ≡ parcel_sizes_refusal parcel → Surveyed parcel (Ok (record { head = h; payloads = p }))
     told_yes e = record { number = e; seen = record { width = rw (held.head, is); height = rw (held.head, is); ratio = rw (held.head, is); held = held } }
@@ -51,4 +54,4 @@ module _ (parcel : List ℕ) where
   short_head p held other = rw (held.head, ne_eqb (length p.head.now) 6 other)
 
 -- what the tests of six records say
-pub ruleset tests = (first_is, kinds_are, right_kinds, lengths_are, short_head, wrong_kinds, wrong_lengths, all_right, told_yes)
+pub ruleset tests = (first_is, kinds_are, right_kinds, lengths_are, wrong_sizes, short_head, wrong_kinds, wrong_lengths, all_right, told_yes)

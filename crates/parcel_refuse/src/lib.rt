@@ -78,22 +78,22 @@ fn numbers(head: &[u8]) -> Head
 // Each payload has the length that a head calls for.
 #[tactic(auto, unfolding(rules::specs::Forms::all, rules::specs::Forms::turns))]
 fn long(parcel: &[u8], payloads: Payloads<'_>, head: Head) -> bool
-    requires { Held parcel.now payloads }
+    requires held { Held parcel.now payloads }
+    requires wide { head.width ≤ 4096 }
+    requires tall { head.height ≤ 4096 }
     ensures { result ≡ are_long (records parcel.now) (head.width, head.height) head.ratio }
 {
+    let pixels = head.width * head.height;
     let across = plane::divided(head.width, head.ratio);
-    let down = plane::divided(head.height, head.ratio);
-    let luma = plane::exact(payloads.gains.len(), 2, head.width, head.height)
-        & plane::exact(payloads.offsets.len(), 2, head.width, head.height);
-    let chroma = plane::exact(payloads.first.len(), 2, across, down)
-        & plane::exact(payloads.second.len(), 2, across, down);
-    let wide = table::cells(head.width);
-    let tall = table::cells(head.height);
-    luma & chroma & plane::exact(payloads.cells.len(), 2, wide, tall)
+    let points = across * plane::divided(head.height, head.ratio);
+    let marks = table::cells(head.width) * table::cells(head.height);
+    let luma = (payloads.gains.len() == 2 * pixels) & (payloads.offsets.len() == 2 * pixels);
+    let chroma = (payloads.first.len() == 2 * points) & (payloads.second.len() == 2 * points);
+    luma & chroma & (payloads.cells.len() == 2 * marks)
 }
 
 // A parcel of six whole records.
-#[tactic(auto, using(crate::proofs::Told::tests))]
+#[tactic(auto, using(crate::proofs::Told::tests, laws::proofs::Accepted::sizes_in))]
 fn six(parcel: &[u8]) -> Result<Contents<'_>, Refusal>
     requires whole { is_whole parcel.now ≡ true }
     requires six { length (records parcel.now) ≡ 6 }
@@ -103,12 +103,9 @@ fn six(parcel: &[u8]) -> Result<Contents<'_>, Refusal>
     let payloads = six_payloads(parcel)?;
     plane::ensure(payloads.head.len() == 6, Refusal::Payload)?;
     let head = numbers(payloads.head);
-    let sizes = plane::sizes(head.width, head.height);
+    plane::ensure(plane::sizes(head.width, head.height), Refusal::Payload)?;
     let ratio = plane::ratioed(head.ratio, head.width, head.height);
-    plane::ensure(
-        sizes & ratio & long(parcel, payloads, head),
-        Refusal::Payload,
-    )?;
+    plane::ensure(ratio & long(parcel, payloads, head), Refusal::Payload)?;
     Ok(Contents { head, payloads })
 }
 
