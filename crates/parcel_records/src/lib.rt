@@ -119,6 +119,7 @@ fn noted<'p>(place: Option<Place<'p>>, piece: Piece<'p>) -> Place<'p>
 
 // The place of a kind among a parcel's whole records, if it has one.
 #[tactic(auto, using(crate::proofs::Walk::find_one, crate::proofs::Walk::find_cut, crate::proofs::Walk::found))]
+#[inline(always)]
 pub fn find(parcel: &[u8], kind: usize) -> Option<Place<'_>>
     ensures { MatchOption result (Missing parcel.now kind) (λ p. Placed parcel.now kind p) }
 {

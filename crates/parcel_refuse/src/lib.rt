@@ -35,6 +35,7 @@ pub struct Contents<'p> {
 }
 
 // The payload of a kind that is not repeated or missing.
+#[inline(always)]
 fn once(parcel: &[u8], kind: usize) -> Result<&[u8], Refusal>
     ensures { MatchResult result
         (λ p. (is_once parcel.now kind ≡ true) × (payload_of kind (records parcel.now) ≡ p.now))
