@@ -52,7 +52,9 @@ fn over_lengths(over: &[Over], width: usize, height: usize) -> bool
     over.iter().all(|plane| plane::planed(plane.length, plane.pitch, width, height))
 }
 
-// The rows that every call over a layer shares, where these byte planes lie over it.
+// The rows that every call over a layer shares, where these byte planes lie over it. They are compiled into each call:
+// apart, `empty` of 64 by 64 pixels takes 33 ns, not 18.
+#[inline(always)]
 #[tactic(auto, unfolding(rules::specs::Refusals::first_fitting))]
 pub fn rows<L: Lent>(shape: Shape, layer: L, over: &[Over]) -> Result<(), Refusal>
     ensures { (lent : List Plane) (rest : Table) → map measured lent ≡ over.now

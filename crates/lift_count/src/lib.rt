@@ -40,6 +40,7 @@ fn run<L: Lent, F: Fn(usize) -> Model + Copy>(
 }
 
 // By the reader that is fast for its plane.
+// Kept: (d) `lift_rows` chooses by the same two tests what is done to a pixel; there it is said why each has its own.
 fn near_run<L: Lent>(stretch: Stretch<Sheet<L>>, count: usize) -> usize
     requires { count + (stretch.to - stretch.from) < 2 ^ 63 }
     ensures { PartCounted stretch.over.plan (L.held stretch.over.layer) stretch.y stretch.from stretch.to count result }

@@ -54,13 +54,7 @@ run_skip rule pitch y from to count bytes ahead none =
 -- ---- the cells of a row
 
 module _ (p : Plan) (held : Held) (h : Planned p) where
-  -- a row of cells, and a column, are the layer's
-  pub row_inside : (y : ℕ) → y < p.down → y / p.side < p.rows
-  row_inside y above =
-      let s = p.shape in
-      let f = h.formed in
-      rw h.is (cell_in (eqb s.plane 0) s.height s.ratio y f.ratio f.whole_down (rw h.is at above))
-
+  -- a column of cells is the layer's
   pub cell_inside : (k row : ℕ) → row < p.rows → k < cells_of p → CellInside p k row
   cell_inside k row above left =
       let s = p.shape in

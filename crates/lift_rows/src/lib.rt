@@ -18,7 +18,8 @@ fn run<W: Work, F: Fn(W, usize, usize, u8) -> Option<u8> + Copy>(
     count: usize,
 ) -> usize
     requires room { PartAsks (W.plan stretch.over) output.old stretch.y stretch.from stretch.to count }
-    requires changes { Changes (rule_of (W.byte stretch.over) (W.plan stretch.over).shape (W.held stretch.over)) stretch.y stretch.from stretch.to (F.pre change stretch.over) (F.post change stretch.over) }
+    requires changes { Changes (rule_of (W.byte stretch.over) (W.plan stretch.over).shape (W.held stretch.over)) stretch.y stretch.from stretch.to
+        (F.pre change stretch.over) (F.post change stretch.over) }
     ensures { PartDone (W.byte stretch.over) (W.plan stretch.over) (W.held stretch.over) stretch.y stretch.from stretch.to count output.old output.new result }
 {
     let work = stretch.over;
@@ -33,6 +34,8 @@ fn run<W: Work, F: Fn(W, usize, usize, u8) -> Option<u8> + Copy>(
 }
 
 // A work over a stretch, in the way that is fast for it and its plane.
+// Kept: (d) `lift_count` chooses by the same two tests what reads a pixel. One choice for both would take the step that
+// follows as a trait's method, generic over the reader, in place of two lines.
 fn near_run<W: Work>(output: &mut [u8], stretch: Stretch<W>, count: usize) -> usize
     requires { PartAsks (W.plan stretch.over) output.old stretch.y stretch.from stretch.to count }
     ensures { PartDone (W.byte stretch.over) (W.plan stretch.over) (W.held stretch.over) stretch.y stretch.from stretch.to count output.old output.new result }

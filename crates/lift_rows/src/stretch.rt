@@ -51,6 +51,7 @@ fn cells(plan: Plan) -> usize
 }
 
 // The first column of cells, from one on, whose cell in this row of cells is near, or is far.
+// Kept: (d) `near` is what each cell is compared with, and no step hangs on it; two functions would differ in a `!`.
 fn seek<L: Lent>(sheet: Sheet<L>, row: usize, from: usize, near: bool) -> Option<usize>
     requires { row < sheet.plan.rows }
     ensures { First (lay sheet.plan.shape (L.held sheet.layer)) row near from (cells_of sheet.plan) result }

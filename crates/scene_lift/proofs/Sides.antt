@@ -1,10 +1,11 @@
 -- The size of a float, tested from both sides; one of two values by two such tests. Assumes nothing.
-use mathlib.Core.Path.{◌≡◌, refl, ap}
+use mathlib.Core.Path.{◌≡◌, refl, sym, ap}
 use mathlib.Core.Bool.{Bool, true, false, cond, ◌&&◌, ◌||◌}
 use Prim.Native.Nat.{ℕ, ◌+◌, ◌*◌, ◌<◌}
 use native.Mathlib.Nat.{mul-pos}
 use native.Mathlib.Omega.{arith}
 use borrow.Author.Tests.{lt-ltb}
+use Rattle.std.proofs.Math.Bool.{and-true}
 use lib.IntN.{ℤ, negsuc}
 use lib.Ieee.{Float, nan, inf, fin, of_bits, up, down, lt, eq, le, neg}
 use lib.Ieee.Fits.{up_pos, down_pos}
@@ -19,11 +20,7 @@ sides test n i j minus nan = rw n
 sides test n i j minus (inf true) = rw (i, j)
 sides test n i j minus (inf false) = rw j
 sides test n i j minus (fin true m e) = simp (minus m e)
-sides test n i j minus (fin false m e) = rw (minus m e) (and_true (test (fin false m e)))
-  where
-    and_true : (b : Bool) → b ≡ (b && true)
-    and_true true = refl
-    and_true false = refl
+sides test n i j minus (fin false m e) = rw (minus m e) (sym (and-true (test (fin false m e))))
 
 -- n * 2 ^ d is above 0
 module _ (n : ℕ) (d : ℤ) (N : 0 < n) where

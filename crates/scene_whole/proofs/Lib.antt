@@ -1,4 +1,3 @@
-pub mod Bytes
 pub mod Points
 pub mod Moved
 pub mod Around
