@@ -43,8 +43,8 @@ fn small(bytes: &[u8])
 {}
 
 // The lifted value at a pixel with this total of gains.
-// Kept: (b) a pixel stands beside its plane, not in one value with it: where render made the plane's value anew for each
-// pixel of luma, that took 6 in 100 more instructions.
+// Kept: (b) a pixel stands beside its plane, not in one value with it: where render made the plane's value anew for
+// each pixel of luma, that took 6 in 100 more instructions.
 fn lifted_at<L: Lent>(seen: &Seen<L>, x: usize, y: usize, total: i32) -> f32
     requires inside { Inside seen.now.sheet.plan x y }
     requires summed { Summed seen.now.sheet.plan (L.held seen.now.sheet.layer 0) x y total }
