@@ -5,11 +5,12 @@ use Prim.Native.Nat.{ℕ, ◌+◌, ◌*◌}
 use native.Mathlib.Omega.{arith}
 use borrow.Author.Tests.{leb-true, eqb-false, not-true}
 use lib.Dec.{leb, eqb}
+use Rattle.std.proofs.lemmas.Bool.{and_parts}
 use Rattle.rules.specs.Forms.{each}
 use Rattle.rules.specs.Refusals.{Table, first_fitting, stats_refusal, fit_refusal, assemble_refusal, distances_refusal, empty_refusal, peel_refusal, unpeel_refusal, render_refusal, parcel_write_refusal, mask_refusal, apply_refusal, hold_refusal}
 use Rattle.rules.specs.Parcel.{parcel_read_refusal, parcel_sizes_refusal}
 use Rattle.rules.specs.Walk.{walk_start_refusal, walk_pair_refusal, walk_layer_refusal}
-use Rattle.laws.proofs.Accepted.{both, number_passes}
+use Rattle.laws.proofs.Accepted.{number_passes}
 use Rattle.answers.specs.Never.{Other, NeverEight, NotAnswered}
 
 is_other : ℕ → Bool
@@ -19,7 +20,7 @@ is_other n = not (eqb n 8) && leb n 255
 by_rows : (t : Table) → each (λ row. is_other row.0) t ≡ true → Other (first_fitting t)
 unfolding is_other
 by_rows t e =
-    let s = both (not (eqb (first_fitting t) 8)) (leb (first_fitting t) 255) (number_passes is_other t refl e) in
+    let s = and_parts (not (eqb (first_fitting t) 8)) (leb (first_fitting t) 255) (number_passes is_other t refl e) in
     record { other = eqb-false _ _ (not-true _ s.0); byte = leb-true _ _ s.1 }
 
 pub never_eight : NeverEight

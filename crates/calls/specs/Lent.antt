@@ -41,7 +41,7 @@ abbrev pub pair_of : (first0 first1 first2 second0 second1 second2 : Plane) → 
 pair_of first0 first1 first2 second0 second1 second2 motion =
     record { first = (first0, first1, first2); second = (second0, second1, second2); motion = motion }
 
--- six sums, or six terms, in the order of a part's slices
+-- six sums, in the order of a part's slices
 abbrev pub listed : Sums → List Float
 listed t = t.p ∷ t.i ∷ t.pp ∷ t.pi ∷ t.ii ∷ t.apart ∷ []
 

@@ -9,7 +9,7 @@ ghost use Rattle.distances.specs.Pass.{Inside, lowest_of, Rows, Passed, Down, Ba
 use rules::Refusal;
 
 // The lesser of best and 1 more than other.
-// Kept: (b) best.min(other.saturating_add(1)) has an addition more from cell to cell, and takes 7.2 ns a cell, not 4.4.
+// Kept: (b) best.min(other.saturating_add(1)) has an addition more from cell to cell, and takes 6.0 ns a cell, not 4.4.
 fn nearer(best: u8, other: u8) -> u8
     ensures { result ≡ min best (other + 1) }
 {
@@ -26,6 +26,8 @@ fn lowest(cells: &[u8], at: usize, left: usize, mid: usize, right: usize, beside
     nearer(nearer(own, row), beside)
 }
 
+// Kept: (b) one walk, generic in what comes next, for this row and row_back, for pass_down and pass_back: it proves, and
+// takes 4.7 ns a cell, not 4.5.
 // A row of the first pass, from left to right. Columns and rows are held to the grid: a cell may be read as its own
 // neighbour, which lowers nothing.
 fn row_down(cells: &mut [u8], row: usize, up: usize, width: usize)
@@ -83,7 +85,7 @@ fn pass_back(cells: &mut [u8], width: usize)
 // In the complete rows of this width each cell becomes the least of 255 and of the old cells plus their chessboard
 // distance to it. The tail stays. Width 0 is refused.
 pub fn distances(cells: &mut [u8], width: usize) -> Result<(), Refusal>
-    ensures { DistancesAnswered (record { cells = cells.entry.now; width = width }) cells.exit.now result }
+    ensures { DistancesAnswered (record { cells = cells.old; width = width }) cells.new result }
 {
     plane::ensure(1 <= width, Refusal::Size)?;
     pass_down(cells, width);

@@ -23,11 +23,10 @@ use Rattle.evidence_calls.specs.Calls.{FitTold, LaterTold, plane_left, KeepsCall
 
 -- ---- an answer, taken apart: a refusal's number is a byte, so it is the answer's low byte
 
-is_byte : ℕ → Bool
+abbrev pub is_byte : ℕ → Bool
 is_byte n = leb n 255
 
-few : (t : Table) → each (λ row. is_byte row.0) t ≡ true → first_fitting t ≤ 255
-unfolding is_byte
+pub few : (t : Table) → each (λ row. is_byte row.0) t ≡ true → first_fitting t ≤ 255
 few t e = leb-true _ _ (number_passes is_byte t refl e)
 
 pub low : (k n r : ℕ) → n ≤ 255 → r ≡ k * 256 + n → r % 256 ≡ 0 → n ≡ 0
@@ -45,7 +44,7 @@ told (unpeel_luma output frames) l t = t
 told (render_plane plane output frames motion algo) l t = t
 
 number_few : (call : Later) (l : Layer) → (run call l).answer.number ≤ 255
-unfolding peel_refusal unpeel_refusal render_refusal each is_byte
+unfolding peel_refusal unpeel_refusal render_refusal each
 number_few (peel_luma output raw) l = few _ refl
 number_few (unpeel_luma output frames) l = few _ refl
 number_few (render_plane plane output frames motion algo) l = few _ refl
@@ -75,7 +74,7 @@ keeps_left l l' k = record { layers = k; later = later }
 -- ---- the fits
 
 refusal_few : (c : FitCall) → fit_refusal c ≤ 255
-unfolding fit_refusal each is_byte
+unfolding fit_refusal each
 refusal_few c = few _ refl
 
 accepted : (c : FitCall) (left : Fit) (r : ℕ) → FitTold c left r → number_in r ≡ 0 → fit_refusal c ≡ 0

@@ -2,7 +2,7 @@
 use Rattle.std.specs.Prelude.{◌≡◌, false, List, [], ◌∷◌, ◌++◌, ℕ, ◌+◌, ◌*◌, ◌/◌, pos, replicate, Float}
 use Rattle.rules.specs.declared.Gain.{Gain}
 use Rattle.rules.specs.declared.Offset.{Offset}
-use Rattle.rules.specs.Forms.{Part, Layer, cells, area, shrunk}
+use Rattle.rules.specs.Forms.{Layer, absent, cells, area, shrunk}
 use Rattle.rules.specs.Literals.{0·0, 1·0, 2·0, 4·0}
 use Rattle.rules.specs.Float.{float}
 use Rattle.rules.specs.Calls.{FitCall, PeelCall}
@@ -22,9 +22,6 @@ letter gain evidence = 0·0 ∷ 0·0 ∷ float (2 * 4092) ∷ float (2 * gain) �
 -- so many pixels at which nothing is found
 abbrev pub blank : ℕ → List Float
 blank pixels = replicate (6 * pixels) 0·0
-
-abbrev pub absent : Part
-absent = part_of [] [] [] 0
 
 -- a fit of one part, with chroma sums of 0
 abbrev pub fit_alone : (luma : List Float) → (size : ℕ × ℕ) → (ratio : ℕ) → (evidence : Float) → FitCall

@@ -1,31 +1,24 @@
 -- The evidence guarantee of a walk, from that of two fits of the clip held together. Assumes nothing.
 use mathlib.Core.Path.{◌≡◌, refl, ap, ◌∙◌}
-use mathlib.Core.Bool.{Bool}
 use Prim.Native.Nat.{ℕ, ◌≤◌}
-use borrow.Author.Tests.{leb-true}
-use lib.Dec.{leb}
 use Rattle.rules.specs.declared.Walked.{Walked}
 use Rattle.rules.specs.Forms.{each, uncounted}
 use Rattle.rules.specs.Calls.{FitCall, WalkLayerCall}
 use Rattle.rules.specs.Refusals.{fit_refusal}
 use Rattle.rules.specs.Host.{word, number_in}
 use Rattle.rules.specs.Walk.{chunks, walk_layer_refusal}
-use Rattle.laws.proofs.Accepted.{number_passes}
 use Rattle.evidence.specs.Evidence.{FitTwice}
 use Rattle.evidence_calls.specs.Calls.{FitTold}
-use Rattle.evidence_calls.proofs.Theorem.{low, demand_three_calls, demand_three_byte_calls}
+use Rattle.evidence_calls.proofs.Theorem.{few, low, demand_three_calls, demand_three_byte_calls}
 use Rattle.walk_whole.specs.Calls.{taken, begin, after_all}
 use Rattle.walk_whole.specs.Whole.{whole_fit, Same}
 use Rattle.walk_whole.proofs.Layers.{each_layer}
 use Rattle.evidence_walk.specs.Walks.{Taking, clip_of, chunk_of, DemandThreeWalks}
 
-is_byte : ℕ → Bool
-is_byte n = leb n 255
-
 -- a walk's answer is accepted where its number is 0
 layer_few : (c : WalkLayerCall) → walk_layer_refusal c ≤ 255
-unfolding walk_layer_refusal each is_byte
-layer_few c = leb-true _ _ (number_passes is_byte _ refl refl)
+unfolding walk_layer_refusal each
+layer_few c = few _ refl
 
 module _ (size : ℕ × ℕ) (ratio pairs : ℕ) (t : Taking size ratio pairs) where
   abbrev call : WalkLayerCall

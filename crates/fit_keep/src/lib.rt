@@ -85,7 +85,7 @@ fn reset(models: &mut [f32], kept: &[u8])
 {
     for (at, byte) in kept.iter().enumerate() {
         if *byte == 2 {
-            table::put_model(models, at, 1.0, 0.0, 0.0, 0.0);
+            table::put_model(models, at, table::UNFITTED);
         }
     }
 }

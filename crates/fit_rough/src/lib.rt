@@ -12,6 +12,7 @@ use assemble_offsets::Sizes;
 use fit_trial::Settings;
 use fit_window::Lent;
 use rules::{Found, Model, Trial};
+use table::Fitted;
 
 // What is looked for in three lent parts of these sizes. The limit is squared already.
 // Kept: (a) outputs are single slices that come first (docs/DECISIONS.md, 26), so their lengths are a clause of each
@@ -32,7 +33,7 @@ fn pass_over(models: &mut [f32], kept: &mut [u8], at: usize)
     requires byte { at < length kept.old }
     ensures { (models.new, kept.new) ≡ passed_over at (models.old, kept.old) }
 {
-    table::put_model(models, at, 1.0, 0.0, 0.0, 0.0);
+    table::put_model(models, at, table::UNFITTED);
     kept[at] = 0;
 }
 
@@ -59,14 +60,8 @@ impl Search<'_> {
         let spot = plane::place(y / ratio, sizes.chroma_width, x / ratio);
         let offsets = self.lent.offsets_of(trial, model.gain, spot);
         let at = plane::place(y, sizes.width, x);
-        table::put_model(
-            models,
-            at,
-            model.gain,
-            model.offset,
-            offsets.first,
-            offsets.second,
-        );
+        let chroma = (offsets.first, offsets.second);
+        table::put_model(models, at, Fitted { model, chroma });
         kept[at] = 1;
     }
 

@@ -55,14 +55,7 @@ fn sums_of(sums: &[f32], at: usize, pairs: usize) -> Sums
     if pairs != 0 {
         sums_at(sums, at)
     } else {
-        Sums {
-            p: 0.0,
-            i: 0.0,
-            pp: 0.0,
-            pi: 0.0,
-            ii: 0.0,
-            apart: 0.0,
-        }
+        Sums::default()
     }
 }
 

@@ -8,14 +8,14 @@ use native.Mathlib.Omega.{arith}
 use borrow.Author.Tests.{leb-true, eqb-true, eqb-false, not-true, not-false}
 use lib.Dec.{leb, eqb}
 use lib.ListN.{length, get_or}
+use Rattle.std.proofs.lemmas.Bool.{and_parts}
 use Rattle.rules.specs.Forms.{Plane, Layer, plane_size, each, cells}
 use Rattle.rules.specs.Domain.{is_size, is_ratio, are_sizes, is_pitch, is_plane, are_exact}
 use Rattle.rules.specs.Refusals.{◌unless◌, Table, first_fitting, layer_rows}
 
 -- an `&&` that is true: both are
 pub both : (a b : Bool) → (a && b) ≡ true → (a ≡ true) × (b ≡ true)
-both true b e = (refl, e)
-both false b e = absurd (false≢true e)
+both = and_parts
 
 -- ---- tables
 
@@ -33,10 +33,10 @@ pub row_right : (t : Table) → numbered t ≡ true → first_fitting t ≡ 0 �
 unfolding first_fitting
 row_right [] some e k right is = not-false right (sym is)
 row_right (row ∷ rest) some e zero right is =
-    let s = both (not (eqb row.0 0)) (numbered rest) some in
+    let s = and_parts (not (eqb row.0 0)) (numbered rest) some in
     not-false right (sym is ∙ (passed row.0 (first_fitting rest) row.1 s.0 e).0)
 row_right (row ∷ rest) some e (suc k) right is =
-    let s = both (not (eqb row.0 0)) (numbered rest) some in
+    let s = and_parts (not (eqb row.0 0)) (numbered rest) some in
     row_right rest s.1 (passed row.0 (first_fitting rest) row.1 s.0 e).1 k right is
 
 -- what holds of 0 and of each row's number holds of the table's
@@ -44,7 +44,7 @@ pub number_passes : (test : ℕ → Bool) (t : Table) → test 0 ≡ true → ea
 unfolding first_fitting each
 number_passes test [] none e = none
 number_passes test (row ∷ rest) none e =
-    let s = both (test row.0) (each (λ row. test row.0) rest) e in
+    let s = and_parts (test row.0) (each (λ row. test row.0) rest) e in
     first row.1 row.0 (first_fitting rest) s.0 (number_passes test rest none s.1)
   where
     first : (fits : Bool) (n rest : ℕ) → test n ≡ true → test rest ≡ true → test (cond fits n rest) ≡ true
@@ -58,14 +58,14 @@ abbrev pub Side : ℕ → Type 0
 Side n = (1 ≤ n) × (n ≤ 4096)
 
 size_in : (n : ℕ) → is_size n ≡ true → Side n
-size_in n e = let t = both (leb 1 n) (leb n 4096) e in (leb-true 1 n t.0, leb-true n 4096 t.1)
+size_in n e = let t = and_parts (leb 1 n) (leb n 4096) e in (leb-true 1 n t.0, leb-true n 4096 t.1)
 
 pub sizes_in : (size : ℕ × ℕ) → are_sizes size ≡ true → Side size.0 × Side size.1
-sizes_in size e = let t = both (is_size size.0) (is_size size.1) e in (size_in size.0 t.0, size_in size.1 t.1)
+sizes_in size e = let t = and_parts (is_size size.0) (is_size size.1) e in (size_in size.0 t.0, size_in size.1 t.1)
 
 pub pitch_in : (pitch width : ℕ) → is_pitch pitch width ≡ true → (width ≤ pitch) × (pitch ≤ 65536)
 pitch_in pitch width e =
-    let t = both (leb width pitch) (leb pitch 65536) e in (leb-true width pitch t.0, leb-true pitch 65536 t.1)
+    let t = and_parts (leb width pitch) (leb pitch 65536) e in (leb-true width pitch t.0, leb-true pitch 65536 t.1)
 
 pub one_in : (r : ℕ) → (eqb r 1 || eqb r 2 || eqb r 4) ≡ true → ((1 ≤ r) × (r ≤ 4)) × (r ≡ 3 → ⊥)
 one_in r e = go (eqb r 1) (eqb r 2) (eqb r 4) (eqb-true r 1) (eqb-true r 2) (eqb-true r 4) e
@@ -105,8 +105,8 @@ pub record Shrinks (size : ℕ × ℕ) (ratio : ℕ) : Type 0 where
 pub ratio_in : (size : ℕ × ℕ) (ratio : ℕ) → Side size.0 × Side size.1 → is_ratio ratio size ≡ true → Shrinks size ratio
 ratio_in size ratio sides e =
     let one : Bool = eqb ratio 1 || eqb ratio 2 || eqb ratio 4 in
-    let t = both (one && eqb (size.0 % ratio) 0) (eqb (size.1 % ratio) 0) e in
-    let u = both one (eqb (size.0 % ratio) 0) t.0 in
+    let t = and_parts (one && eqb (size.0 % ratio) 0) (eqb (size.1 % ratio) 0) e in
+    let u = and_parts one (eqb (size.0 % ratio) 0) t.0 in
     let few = one_in ratio u.0 in
     let w = whole_in size.0 ratio u.1 in
     let h = whole_in size.1 ratio t.1 in
@@ -125,8 +125,8 @@ pub exact_in : {A : Type 0} (luma : List A) (chroma : List A × List A) (lengths
 exact_in luma chroma lengths e =
     let first = eqb (length luma) lengths.0 in
     let second = eqb (length chroma.0) lengths.1 in
-    let t = both (first && second) (eqb (length chroma.1) lengths.1) e in
-    let u = both first second t.0 in
+    let t = and_parts (first && second) (eqb (length chroma.1) lengths.1) e in
+    let u = and_parts first second t.0 in
     (eqb-true _ _ u.0, eqb-true _ _ u.1, eqb-true _ _ t.1)
 
 -- ---- layers
@@ -149,8 +149,8 @@ layer_passed l plane p lent rest e some =
     record {
       wide = sides.0.1;
       tall = sides.1.1;
-      narrow = (pitch_in p.pitch size.0 (both (is_pitch p.pitch size.0) _ (ok 4 _ refl)).0).0;
-      room = leb-true _ _ (both (is_plane p size) _ (ok 5 _ refl)).0;
+      narrow = (pitch_in p.pitch size.0 (and_parts (is_pitch p.pitch size.0) _ (ok 4 _ refl)).0).0;
+      room = leb-true _ _ (and_parts (is_plane p size) _ (ok 5 _ refl)).0;
     }
 
 -- a pixel's place is in the bytes

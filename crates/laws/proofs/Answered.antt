@@ -1,10 +1,10 @@
 -- What a call answers and leaves, by whether it is refused. Assumes nothing.
-use mathlib.Core.Path.{◌≡◌, refl}
+use mathlib.Core.Path.{◌≡◌, refl, ap}
 use mathlib.Core.Bool.{Bool, true, false}
 use mathlib.Core.List.{[], ◌∷◌}
 use Prim.Native.Nat.{ℕ}
 use lib.Dec.{eqb}
-use Rattle.std.specs.Prelude.{Result, Ok, Err, MatchResult}
+use Rattle.std.specs.Prelude.{Result, Ok, Err, IsErrAnd, MatchResult}
 use Rattle.rules.specs.declared.Refusal.{Refusal}
 use Rattle.rules.specs.declared.Refusal.TheVariants.{Size, Ratio, Pitch, Length, Movement, Setting, Pairs, Cut, Kind, Payload, Turn}
 use Rattle.rules.specs.Forms.{answer, leaves}
@@ -23,6 +23,11 @@ number_some Cut = refl
 number_some Kind = refl
 number_some Payload = refl
 number_some Turn = refl
+
+-- what a `?` hands on is what it met
+pub handed : {A E : Type 0} {e : E} (r : Result A E) → IsErrAnd r (λ y. y ≡ e) → r ≡ Err e
+handed (Ok a) h = absurd h
+handed (Err y) h = ap Err h
 
 -- the last row of a table, by its test
 pub last_row : (refusal : Refusal) (right : Bool) (r : Result Unit Refusal) → MatchResult r (λ _. right ≡ true) (λ e. (right ≡ false) × (e ≡ refusal))

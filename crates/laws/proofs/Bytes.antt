@@ -11,11 +11,11 @@ use mir.Facts.{to_z_pos, to_z-neg}
 use mir.Syntax.{w16}
 use mir.Val.{of_z, to_z}
 use lib.ListN.{length, length-append}
+use Rattle.std.proofs.lemmas.Bool.{and_parts}
 use Rattle.rules.specs.Forms.{tabulate, each}
 use Rattle.rules.specs.Host.{signed16, entry, numbers}
 use Rattle.rules.specs.Parcel.{in_bytes, bits, is_short, written}
 use Rattle.laws.proofs.Lists.{table_same}
-use Rattle.laws.proofs.Accepted.{both}
 
 -- ---- how many bytes
 
@@ -45,7 +45,7 @@ written_last list z = written-append list (z ∷ []) ∙ rw (append-nil (in_byte
 bits_back : (z : ℤ) → is_short z ≡ true → signed16 (bits z) ≡ z
 bits_back (pos n) s = let h = leb-true n 32767 s in rw (lt-ltb n 32768 (omega arith))
 bits_back (negsuc n) s =
-    let h = leb-true n 32767 (both (leb n 32767) true s).0 in
+    let h = leb-true n 32767 (and_parts (leb n 32767) true s).0 in
     let again : 65536 - suc (65535 - n) ≡ n = omega arith in
     rw (le-ltb (65535 - n) 32768 (omega arith), lt-ltb (65535 - n) 65536 (omega arith), again)
 
@@ -97,5 +97,5 @@ pub read_back : (list : List ℤ) → each is_short list ≡ true → numbers (w
 unfolding written in_bytes each numbers tabulate
 read_back [] s = refl
 read_back (z ∷ rest) s =
-    let t = both (is_short z) (each is_short rest) s in
+    let t = and_parts (is_short z) (each is_short rest) s in
     numbers_after (bits z % 256) (bits z / 256 % 256) (written rest) ∙ rw (number_back z t.0, read_back rest t.1)

@@ -9,13 +9,8 @@ use lib.Dec.{T, ltb, nltb→le, ltb→lt}
 use lib.ListN.{length, get_or, get_or-eq_default}
 use lib.Seq.{ext_get_or}
 use lib.Arith.{digits_lt}
+use Rattle.std.proofs.lemmas.Bool.{and_parts}
 use Rattle.rules.specs.Forms.{turns, tabulate, any, each, how_many}
-use Rattle.laws.proofs.Accepted.{both}
-
--- one of two that are at most n
-pub either : (t : Bool) (a b n : ℕ) → a ≤ n → b ≤ n → cond t a b ≤ n
-either true a b n h k = h
-either false a b n h k = k
 
 -- a pixel's place is among those of its plane
 pub place_in : {w h x y : ℕ} → y < h → x < w → y * w + x < w * h
@@ -89,12 +84,12 @@ unfolding each tabulate
 each_table test zero f h = refl
 each_table test (suc n) f h = rw (h zero (omega arith)) (each_table test n (λ k. f (suc k)) (λ k b. h (suc k) (omega arith)))
 
--- a test that each entry of a list passes, and the default: whatever is read there does
-pub each_at : {A : Type 0} (test : A → Bool) (list : List A) (d : A) → each test list ≡ true → test d ≡ true → (k : ℕ) → test (get_or list k d) ≡ true
+-- a test that each entry of a list passes: whatever is read there does, and past it where the default does
+pub each_at : {A : Type 0} (test : A → Bool) (list : List A) (d : A) → each test list ≡ true → (k : ℕ) → (length list ≤ k → test d ≡ true) → test (get_or list k d) ≡ true
 unfolding each
-each_at test [] d e h k = h
-each_at test (a ∷ rest) d e h zero = (both (test a) (each test rest) e).0
-each_at test (a ∷ rest) d e h (suc k) = each_at test rest d (both (test a) (each test rest) e).1 h k
+each_at test [] d e k h = h (omega arith)
+each_at test (a ∷ rest) d e zero h = (and_parts (test a) (each test rest) e).0
+each_at test (a ∷ rest) d e (suc k) h = each_at test rest d (and_parts (test a) (each test rest) e).1 k (λ p. h (omega arith))
 
 -- ---- turns, any and how_many
 

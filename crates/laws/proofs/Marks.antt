@@ -11,6 +11,7 @@ use lib.Signed.{le_z}
 use lib.ListN.{length, get_or}
 use lib.Ieee.{Float}
 use lib.Ieee.Fits.{and_i, and_l, and_r}
+use Rattle.std.proofs.lemmas.Bool.{cond_both}
 use Rattle.rules.specs.Forms.{Layer, tabulate, plane_ratio}
 use Rattle.rules.specs.Float.{◌≼◌, ◌≺◌}
 use Rattle.rules.specs.Distances.{least, whole, nearest_to, distances}
@@ -18,7 +19,7 @@ use Rattle.rules.specs.Reading.{cell, distance, gap}
 use Rattle.rules.specs.Render.{margin, rendered}
 use Rattle.laws.proofs.Order.{not_shut}
 use Rattle.laws.proofs.Whole.{gap_mono}
-use Rattle.laws.proofs.Lists.{either, length-tabulate, tabulate_both}
+use Rattle.laws.proofs.Lists.{length-tabulate, tabulate_both}
 
 -- ---- the transform
 
@@ -61,7 +62,7 @@ pub distances_small : (old : List ℕ) (width : ℕ) → ((k : ℕ) → get_or o
 unfolding distances nearest_to
 distances_small old width h k =
     tabulate_both {B = ℕ} (λ a b. a ≤ 255) (length old) _ (λ j. 0) 0 0 k
-    (λ below. either (ltb k (whole old width)) _ _ 255 (least_small _ (whole old width)) (h k))
+    (λ below. cond_both (ltb k (whole old width)) _ _ (λ n. n ≤ 255) (λ e. least_small _ (whole old width)) (λ e. h k))
     (omega arith)
 
 -- ---- covers by their marks
@@ -89,7 +90,7 @@ module _ (n : ℕ) (marks marks' : ℕ → Bool) (more : (cell : ℕ) → T (mar
 pub marks_small : (n : ℕ) (marks : ℕ → Bool) (width k : ℕ) → get_or (distances (covered n marks) width) k 0 ≤ 255
 marks_small n marks width =
     distances_small (covered n marks) width
-    (λ k. tabulate_both {B = ℕ} (λ a b. a ≤ 255) n _ (λ j. 0) 0 0 k (λ below. either (marks k) 0 255 255 (omega arith) (omega arith)) (omega arith))
+    (λ k. tabulate_both {B = ℕ} (λ a b. a ≤ 255) n _ (λ j. 0) 0 0 k (λ below. cond_both (marks k) 0 255 (λ n. n ≤ 255) (λ e. omega arith) (λ e. omega arith)) (omega arith))
 
 -- ---- gaps
 

@@ -28,7 +28,7 @@ fn gain_of(total: i32, span: usize) -> f32
 fn offset_of(offset: Offset) -> f32
     ensures { result ≡ signed offset.0 ⊘ 64·0 }
 {
-    float::of_stored(offset.0) / 64.0
+    f32::from(offset.0) / 64.0
 }
 
 // The least total of span² stored gains whose gain is 0.2 or more.
@@ -60,7 +60,7 @@ pub fn luma_texel(gain: Gain, offset: Offset) -> Model
     ensures { result ≡ luma_texel gain offset }
 {
     Model {
-        gain: float::of_stored(gain.0) / 4096.0,
+        gain: f32::from(gain.0) / 4096.0,
         offset: offset_of(offset),
     }
 }

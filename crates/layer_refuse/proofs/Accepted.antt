@@ -8,10 +8,11 @@ use native.Mathlib.Omega.{arith}
 use borrow.Author.Tests.{leb-true}
 use lib.Dec.{leb}
 use lib.ListN.{length}
+use Rattle.std.proofs.lemmas.Bool.{and_parts}
 use Rattle.rules.specs.Forms.{Plane, plane_size}
 use Rattle.rules.specs.Domain.{are_sizes, is_ratio, is_pitch, have_pitches, have_lengths, layer_pitches, layer_lengths}
 use Rattle.rules.specs.Refusals.{Table, first_fitting, layer_rows}
-use Rattle.laws.proofs.Accepted.{both, sizes_in, ratio_in, pitch_in}
+use Rattle.laws.proofs.Accepted.{sizes_in, ratio_in, pitch_in}
 use Rattle.layer_lent.specs.declared.Shape.{Shape}
 use Rattle.layer_lent.specs.Lent.{lay, plan_of, Formed, Sound, Held}
 use Rattle.layer_lent.proofs.Plans.{planned_in}
@@ -57,11 +58,11 @@ module _ (s : Shape) (held : Held) (lent : List Plane) (rest : Table) where
       let t = passed (leb s.plane 2) (are_sizes (w, h)) (is_ratio r (w, h)) (layer_pitches (lay s held)) (have_pitches lent size) (have_lengths lent size) (layer_lengths (lay s held)) (first_fitting rest) e in
       let sizes = sizes_in (w, h) t.second in
       let shrinks = ratio_in (w, h) r sizes t.third in
-      let p = both (is_pitch s.luma_pitch w) (is_pitch s.chroma_pitch (w / r)) t.fourth in
+      let p = and_parts (is_pitch s.luma_pitch w) (is_pitch s.chroma_pitch (w / r)) t.fourth in
       let nl = leb (2 * (s.luma_pitch * h)) (length (held 0)) in
       let na = leb (2 * (s.chroma_pitch * (h / r))) (length (held 1)) in
-      let q = both (nl && na) (leb (2 * (s.chroma_pitch * (h / r))) (length (held 2))) t.seventh in
-      let k = both nl na q.0 in
+      let q = and_parts (nl && na) (leb (2 * (s.chroma_pitch * (h / r))) (length (held 2))) t.seventh in
+      let k = and_parts nl na q.0 in
       let formed : Formed s = record {
         wide = sizes.0;
         tall = sizes.1;

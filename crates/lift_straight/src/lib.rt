@@ -47,7 +47,7 @@ impl<L: Lent> Unpeel<'_, L> {
         let shape = self.sheet.plan.shape;
         let first = sample::at(self.first, shape.first_pitch, x, y);
         let second = sample::at(self.second, shape.second_pitch, x, y);
-        let old = float::of_byte(old);
+        let old = f32::from(old);
         float::pixel(scene_lift::relaid(model, first, second, shape.time, old))
     }
 }

@@ -10,9 +10,10 @@ use borrow.Author.Tests.{leb-true, eqb-true}
 use lib.Dec.{leb, eqb}
 use lib.IntN.{ℤ, pos, negsuc, nat_abs}
 use lib.ListN.{length}
+use Rattle.std.proofs.lemmas.Bool.{and_parts}
 use Rattle.rules.specs.Forms.{area}
 use Rattle.rules.specs.Domain.{are_sizes, is_pitch, is_plane, spans, is_pel, motion_lengths, motion_numbers}
-use Rattle.laws.proofs.Accepted.{both, Side, sizes_in, pitch_in, one_in}
+use Rattle.laws.proofs.Accepted.{Side, sizes_in, pitch_in, one_in}
 use Rattle.plane.specs.Slices.{Slices, slice}
 use Rattle.sample.specs.Points.{PlaneFits}
 use Rattle.motion.specs.declared.Grid.{Grid}
@@ -28,12 +29,12 @@ plane_in raw pitch width height wide tall p l =
 -- ---- motion
 
 side_in : (z : ℤ) → spans (pos 1) (pos 128) z ≡ true → nat_abs z ≤ 4096
-side_in (pos n) e = let l = leb-true n 128 (both (leb 1 n) (leb n 128) e).1 in omega arith
+side_in (pos n) e = let l = leb-true n 128 (and_parts (leb 1 n) (leb n 128) e).1 in omega arith
 side_in (negsuc n) e = absurd (false≢true e)
 
 origin_in : (z : ℤ) → spans (negsuc 4095) (pos 4096) z ≡ true → nat_abs z ≤ 4096
-origin_in (pos n) e = leb-true n 4096 (both true (leb n 4096) e).1
-origin_in (negsuc n) e = let l = leb-true n 4095 (both (leb n 4095) true e).0 in omega arith
+origin_in (pos n) e = leb-true n 4096 (and_parts true (leb n 4096) e).1
+origin_in (negsuc n) e = let l = leb-true n 4095 (and_parts (leb n 4095) true e).0 in omega arith
 
 pel_in : (z : ℤ) → is_pel z ≡ true → nat_abs z ≤ 4096
 pel_in (pos n) e = le_trans (one_in n e).0.1 (omega arith)
@@ -47,11 +48,11 @@ module _ (fields : Slices ℕ) (g : Grid) (ratio : ℕ) (few : ratio ≤ 4) wher
       let bh = spans (pos 1) (pos 128) g.block_height in
       let ox = spans (negsuc 4095) (pos 4096) g.origin_x in
       let oy = spans (negsuc 4095) (pos 4096) g.origin_y in
-      let a = both (sizes && bw && bh && ox && oy) (is_pel g.pel) e in
-      let b = both (sizes && bw && bh && ox) oy a.0 in
-      let c = both (sizes && bw && bh) ox b.0 in
-      let d = both (sizes && bw) bh c.0 in
-      let f = both sizes bw d.0 in
+      let a = and_parts (sizes && bw && bh && ox && oy) (is_pel g.pel) e in
+      let b = and_parts (sizes && bw && bh && ox) oy a.0 in
+      let c = and_parts (sizes && bw && bh) ox b.0 in
+      let d = and_parts (sizes && bw) bh c.0 in
+      let f = and_parts sizes bw d.0 in
       let s = sizes_in (g.width, g.height) f.0 in
       record {
         wide = s.0;
@@ -73,7 +74,7 @@ module _ (fields : Slices ℕ) (g : Grid) (ratio : ℕ) (few : ratio ≤ 4) wher
       let fy = slice fields 1 in
       let bx = slice fields 2 in
       let by = slice fields 3 in
-      let a = both (test fx && test fy && test bx) (test by) l in
-      let b = both (test fx && test fy) (test bx) a.0 in
-      let c = both (test fx) (test fy) b.0 in
+      let a = and_parts (test fx && test fy && test bx) (test by) l in
+      let b = and_parts (test fx && test fy) (test bx) a.0 in
+      let c = and_parts (test fx) (test fy) b.0 in
       record { laid = laid_in n; forward = (covers fx c.0, covers fy c.1); backward = (covers bx b.1, covers by a.1) }

@@ -8,6 +8,7 @@ use borrow.Author.Tests.{eqb-true}
 use lib.Dec.{eqb}
 use lib.IntN.{ℤ}
 use lib.ListN.{length}
+use Rattle.std.proofs.lemmas.Bool.{and_parts}
 use Rattle.std.specs.Prelude.{Ok, Err}
 use Rattle.rules.specs.declared.Refusal.{Refusal}
 use Rattle.rules.specs.declared.Refusal.TheVariants.{Length}
@@ -18,7 +19,7 @@ use Rattle.rules.specs.Parcel.{records, is_whole, kinds_right, payload_of, head_
 use Rattle.rules.specs.Parcel.{are_long, lengths_right, layer_read, parcel_size, parcel_ratio, parcel_sizes_refusal, parcel_read_refusal}
 use Rattle.calls.specs.Lent.{fit_of}
 use Rattle.laws.proofs.Answered.{number_some}
-use Rattle.laws.proofs.Accepted.{both, row_right, sizes_in, ratio_in, cells_in, Side, Shrinks}
+use Rattle.laws.proofs.Accepted.{row_right, sizes_in, ratio_in, cells_in, Side, Shrinks}
 use Rattle.table.proofs.Refusals.{late}
 use Rattle.parcel_refuse.specs.declared.Contents.{Contents}
 use Rattle.parcel_refuse.specs.declared.Head.{Head}
@@ -51,19 +52,19 @@ module _ (parcel : List ℕ) (s : Contents) (seen : Seen parcel s) (accepted : 0
   unfolding lengths_right
   tested =
       let head = payload_of 1 (records parcel) in
-      let t = both (is_head head) (are_long (records parcel) (head_size head) (head_ratio head)) lengths in
+      let t = and_parts (is_head head) (are_long (records parcel) (head_size head) (head_ratio head)) lengths in
       (t.0, rw (width_is, height_is, ratio_is) at t.1)
 
   sides : Side s.head.width × Side s.head.height
   sides =
       let head = payload_of 1 (records parcel) in
-      let t = both (eqb (length head) 6 && are_sizes (head_size head)) (is_ratio (head_ratio head) (head_size head)) tested.0 in
-      sizes_in (s.head.width, s.head.height) (rw (width_is, height_is) at (both (eqb (length head) 6) (are_sizes (head_size head)) t.0).1)
+      let t = and_parts (eqb (length head) 6 && are_sizes (head_size head)) (is_ratio (head_ratio head) (head_size head)) tested.0 in
+      sizes_in (s.head.width, s.head.height) (rw (width_is, height_is) at (and_parts (eqb (length head) 6) (are_sizes (head_size head)) t.0).1)
 
   shrinks : Shrinks (s.head.width, s.head.height) s.head.ratio
   shrinks =
       let head = payload_of 1 (records parcel) in
-      let t = both (eqb (length head) 6 && are_sizes (head_size head)) (is_ratio (head_ratio head) (head_size head)) tested.0 in
+      let t = and_parts (eqb (length head) 6 && are_sizes (head_size head)) (is_ratio (head_ratio head) (head_size head)) tested.0 in
       ratio_in (s.head.width, s.head.height) s.head.ratio sides (rw (width_is, height_is, ratio_is) at t.1)
 
   -- ---- its payloads
@@ -80,10 +81,10 @@ module _ (parcel : List ℕ) (s : Contents) (seen : Seen parcel s) (accepted : 0
   each_long : (long 2 pixels ≡ true) × (long 3 pixels ≡ true) × (long 4 (points_of s.head) ≡ true) × (long 5 (points_of s.head) ≡ true) × (long 6 marks ≡ true)
   unfolding turns all pixels marks
   each_long =
-      let f = both (long 2 pixels && long 3 pixels && long 4 (points_of s.head) && long 5 (points_of s.head)) (long 6 marks) tested.1 in
-      let q = both (long 2 pixels && long 3 pixels && long 4 (points_of s.head)) (long 5 (points_of s.head)) f.0 in
-      let t = both (long 2 pixels && long 3 pixels) (long 4 (points_of s.head)) q.0 in
-      let d = both (long 2 pixels) (long 3 pixels) t.0 in
+      let f = and_parts (long 2 pixels && long 3 pixels && long 4 (points_of s.head) && long 5 (points_of s.head)) (long 6 marks) tested.1 in
+      let q = and_parts (long 2 pixels && long 3 pixels && long 4 (points_of s.head)) (long 5 (points_of s.head)) f.0 in
+      let t = and_parts (long 2 pixels && long 3 pixels) (long 4 (points_of s.head)) q.0 in
+      let d = and_parts (long 2 pixels) (long 3 pixels) t.0 in
       (d.0, d.1, t.1, q.1, f.1)
 
   pub opened : Opened parcel s

@@ -22,7 +22,7 @@ pub fn told(done: Result<Head, Refusal>) -> Sizes
             ratio: head.ratio,
         },
         Err(refusal) => Sizes {
-            word: u64::from(u8::from(refusal)),
+            word: u64::from(refusal),
             width: 0,
             height: 0,
             ratio: 0,

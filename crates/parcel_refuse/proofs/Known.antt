@@ -7,10 +7,10 @@ use native.Mathlib.Omega.{arith}
 use borrow.Author.Tests.{leb-true, le-leb, lt-leb, eqb-true, ne_eqb}
 use lib.Dec.{eqb, leb}
 use lib.ListN.{length}
+use Rattle.std.proofs.lemmas.Bool.{and_parts}
 use Rattle.rules.specs.Forms.{turns, all, each}
 use Rattle.rules.specs.Host.{little}
 use Rattle.rules.specs.Parcel.{Record, length_at, begins_whole, first_record, records, head_first, are_known, how_often, once_each, kinds_right}
-use Rattle.laws.proofs.Accepted.{both}
 use Rattle.parcel_records.specs.Steps.{splits}
 use Rattle.parcel_records.proofs.Split.{later, opened}
 
@@ -72,17 +72,17 @@ known_none (r ∷ rest) e = go (is_known r) e (known_none rest)
 none_known : (list : List Record) → are_known list ≡ true → unknown list ≡ 0
 unfolding unknown each is_known
 none_known [] e = refl
-none_known (r ∷ rest) e = let t = both (is_known r) (are_known rest) e in rw t.0 (none_known rest t.1)
+none_known (r ∷ rest) e = let t = and_parts (is_known r) (are_known rest) e in rw t.0 (none_known rest t.1)
 
 once_known : (list : List Record) → once_each list ≡ true → known list ≡ 6
 unfolding known all turns
 once_known list e =
     let is : ℕ → Bool = λ k. eqb (how_often k list) 1 in
-    let s = both (is 1 && is 2 && is 3 && is 4 && is 5) (is 6) e in
-    let f = both (is 1 && is 2 && is 3 && is 4) (is 5) s.0 in
-    let q = both (is 1 && is 2 && is 3) (is 4) f.0 in
-    let t = both (is 1 && is 2) (is 3) q.0 in
-    let d = both (is 1) (is 2) t.0 in
+    let s = and_parts (is 1 && is 2 && is 3 && is 4 && is 5) (is 6) e in
+    let f = and_parts (is 1 && is 2 && is 3 && is 4) (is 5) s.0 in
+    let q = and_parts (is 1 && is 2 && is 3) (is 4) f.0 in
+    let t = and_parts (is 1 && is 2) (is 3) q.0 in
+    let d = and_parts (is 1) (is 2) t.0 in
     let one = eqb-true (how_often 1 list) 1 d.0 in
     let two = eqb-true (how_often 2 list) 1 d.1 in
     let three = eqb-true (how_often 3 list) 1 t.1 in
@@ -123,7 +123,7 @@ pub first_is : (parcel : List ℕ) → length (records parcel) ≡ 6 → Opens p
 first_is parcel six = go (begins_whole parcel) refl (opened parcel)
   where
     go : (b : Bool) → begins_whole parcel ≡ b → splits parcel ≡ cond b (first_record parcel ∷ (splits (later parcel)).0, (splits (later parcel)).1) ([], parcel) → Opens parcel (records parcel)
-    go true q e = (leb-true 6 (length parcel) (both (leb 6 (length parcel)) (leb (length_at parcel) (length parcel - 6)) q).0, ap (λ (t : List Record × List ℕ). head_first t.0) e)
+    go true q e = (leb-true 6 (length parcel) (and_parts (leb 6 (length parcel)) (leb (length_at parcel) (length parcel - 6)) q).0, ap (λ (t : List Record × List ℕ). head_first t.0) e)
     go false q e = absurd (omega (arith, six, ap (λ (t : List Record × List ℕ). length t.0) e))
 
 -- so the kinds are right where the first is the head's and each is there once

@@ -135,7 +135,7 @@ lengths_right_lem l s = told_right (layer_records l) l.size l.ratio (head_tells 
 rows_back : (size : ℕ × ℕ) (list : List ℤ) (place : (x y : ℕ) → ℕ) → each is_short list ≡ true
     → numbers (written (row_by_row size (λ x y. get_or list (place x y) (pos 0)))) ≡ row_by_row size (λ x y. get_or list (place x y) (pos 0))
 rows_back size list place short =
-    read_back _ (each_table is_short (area size) _ (λ k h. each_at is_short list (pos 0) short refl (place (k % size.0) (k / size.0))))
+    read_back _ (each_table is_short (area size) _ (λ k h. each_at is_short list (pos 0) short (place (k % size.0) (k / size.0)) (λ p. refl)))
 
 -- what is read out of records whose head tells these sizes and this ratio
 abbrev read_of : (list : List Record) → (size : ℕ × ℕ) → (ratio : ℕ) → Fit

@@ -1,16 +1,20 @@
 -- The laws of a pass over a plane, stated once over any rule: what one pixel, a run of pixels passed over, and one row
 -- add to what is painted and counted. Assumes nothing.
 use mathlib.Core.Path.{◌≡◌, refl, sym, ap, ◌∙◌}
-use mathlib.Core.Bool.{Bool, true, false, cond, ◌&&◌}
+use mathlib.Core.Bool.{Bool, true, false, cond, ◌&&◌, ◌||◌}
+use mathlib.Core.Logic.{◌↔◌}
 use mathlib.Core.List.{List}
-use Prim.Native.Nat.{ℕ, zero, suc, ◌+◌, ◌-◌, ◌*◌, ◌/◌, ◌%◌, ◌≤◌, ◌<◌}
+use Prim.Native.Nat.{ℕ, zero, suc, ◌+◌, ◌*◌, ◌/◌, ◌%◌, ◌≤◌, ◌<◌}
 use native.Mathlib.Numerals.{add-one}
 use native.Mathlib.Omega.{arith}
-use native.Mathlib.Nat.{mul_comm, le-div_iff_mul-le, mul-div_cancel, mul-mod_left, div-add-mod'}
-use borrow.Author.Tests.{leb-true, le-leb, eqb-true, eqb-false, eq-eqb, ne_eqb}
-use lib.Dec.{leb, eqb}
+use native.Mathlib.Nat.{mul-div_cancel, mul-mod_left, div-add-mod'}
+use borrow.Author.Tests.{eqb-true, eqb-false, eq-eqb, ne_eqb}
+use lib.Dec.{eqb}
 use lib.ListN.{get_or, set}
+use lib.Ieee.{Float, lt, le, eq}
 use Rattle.std.specs.Prelude.{Option, Some, None}
+use Rattle.std.specs.Ordering.{partial_le, float_partial_cmp, is_some_and, is_le}
+use Rattle.std.specs.declared.cmp.Ordering.TheVariants.{Less, Equal, Greater}
 use Rattle.rules.specs.Forms.{Rule, turns, scan_row, scan, stroke, tally, painted, counted}
 use Rattle.plane.specs.Done.{change, stamped, tallied, Stamped, RowDone, RowsDone}
 
@@ -103,16 +107,20 @@ tests_same true q f g = sym (f refl)
 tests_same false true f g = g refl
 tests_same false false f g = refl
 
-pub leb_same : (a b c d : ℕ) → (a ≤ b → c ≤ d) → (c ≤ d → a ≤ b) → leb a b ≡ leb c d
-leb_same a b c d f g = tests_same (leb a b) (leb c d) (λ t. le-leb c d (f (leb-true a b t))) (λ t. le-leb a b (g (leb-true c d t)))
+-- no remainder is a test of the remainder
+pub multiple : (goes : Bool) (n by : ℕ) → (goes ≡ true) ↔ (n % by ≡ 0) → goes ≡ eqb (n % by) 0
+multiple goes n by h = tests_same goes (eqb (n % by) 0) (λ t. eq-eqb (n % by) 0 (h.0 t)) (λ t. h.1 (eqb-true (n % by) 0 t))
 
--- rows a pitch apart fit where their number is at most the quotient
-pub quotient : (size rows pitch more : ℕ) → more ≤ size → (pitch ≡ 0 → ⊥) → leb rows ((size - more) / pitch) ≡ leb (rows * pitch + more) size
-quotient size rows pitch more room some =
-    let p : 0 < pitch = omega arith in
-    leb_same rows ((size - more) / pitch) (rows * pitch + more) size
-    (λ h. let k = (le-div_iff_mul-le {k = pitch} {x = rows} {y = size - more} p).0 h in omega arith)
-    (λ h. (le-div_iff_mul-le {k = pitch} {x = rows} {y = size - more} p).1 (omega arith))
+-- at most, by the library's order of floats
+pub at_most : (x y : Float) → partial_le float_partial_cmp x y ≡ le x y
+unfolding le
+at_most x y = go (lt x y) (eq x y) (lt y x)
+  where
+    go : (below same above : Bool) → is_some_and is_le (cond below (Some Less) (cond same (Some Equal) (cond above (Some Greater) None))) ≡ (below || same)
+    go true same above = refl
+    go false true above = refl
+    go false false true = refl
+    go false false false = refl
 
 -- n is a times b where b goes into it, a times
 pub product : (n a b : ℕ) → 0 < b → (eqb (n % b) 0 && eqb (n / b) a) ≡ eqb n (a * b)
@@ -125,8 +133,3 @@ product n a b some = go (eqb (n % b) 0) refl
         (λ t. let d : a * b + n % b ≡ n = rw (eqb-true (n / b) a t) at (div-add-mod' n b) in eq-eqb n (a * b) (omega arith))
         (λ t. eq-eqb (n / b) a (rw (eqb-true n (a * b) t) (mul-div_cancel a some)))
     go false e = sym (ne_eqb n (a * b) (λ q. eqb-false (n % b) 0 e (rw q (mul-mod_left a b))))
-
--- twice as much fits where as much fits a half
-pub halved : (size rows pitch : ℕ) → leb (rows * pitch + 0) (size / 2) ≡ leb (2 * (pitch * rows)) size
-halved size rows pitch =
-    leb_same (rows * pitch + 0) (size / 2) (2 * (pitch * rows)) size (λ h. omega (arith, mul_comm rows pitch)) (λ h. omega (arith, mul_comm rows pitch))

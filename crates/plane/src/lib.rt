@@ -30,6 +30,9 @@ pub fn sized(n: usize) -> bool
 }
 
 // A width and a height.
+// Kept: (d) they are no value of their own: calls are lent them among their numbers (a Shape, a Grid, the Numbers of hold
+// and apply), and the values made of those say in ghost fields what holds of them beside pitch, ratio and lengths. A Size
+// in each would be named on the way to every number, and the same would have to be said beside it.
 pub fn sizes(width: usize, height: usize) -> bool
     ensures { result ≡ are_sizes (width, height) }
 {
@@ -40,14 +43,14 @@ pub fn sizes(width: usize, height: usize) -> bool
 pub fn pitched(pitch: usize, width: usize) -> bool
     ensures { result ≡ is_pitch pitch width }
 {
-    width <= pitch && pitch <= 65536
+    (width..=65536).contains(&pitch)
 }
 
 // From lo to hi.
 pub fn within(x: f32, lo: f32, hi: f32) -> bool
     ensures { result ≡ within_of x lo hi }
 {
-    (lo <= x) & (x <= hi)
+    (lo..=hi).contains(&x)
 }
 
 // A time from 0 to 1.
@@ -57,18 +60,12 @@ pub fn timed(time: f32) -> bool
     within(time, 0.0, 1.0)
 }
 
-// One of two values, without a branch of the caller's own.
-pub fn chosen<T: Drop>(yes: bool, new: T, old: T) -> T
-    ensures { result ≡ cond yes new old }
-{
-    if yes { new } else { old }
-}
-
 // The column or row after k, the last repeated.
 // Kept: (d) that k lies below the size is asked, as of the index of a slice: an index as a value would carry its size.
 pub fn after(k: usize, size: usize) -> usize
     requires { k < size }
-    ensures { (result ≡ min (k + 1) (size - 1)) × (result < size) }
+    ensures is { result ≡ min (k + 1) (size - 1) }
+    ensures inside { result < size }
 {
     (k + 1).min(size - 1)
 }
@@ -80,7 +77,9 @@ pub fn ensure(right: bool, refusal: Refusal) -> Result<(), Refusal>
     if right { Ok(()) } else { Err(refusal) }
 }
 
-// The quotient, 0 for a divisor 0. The common ratios are constants, which spare the processor's division.
+// The quotient, 0 for a divisor 0.
+// Kept: (b) n.checked_div(by).unwrap_or(0) takes 3.9 ns; the three ratios as constants spare the processor's division,
+// and take 2.3.
 pub fn divided(n: usize, by: usize) -> usize
     ensures { result ≡ n / by }
 {
@@ -88,62 +87,35 @@ pub fn divided(n: usize, by: usize) -> usize
         0 => 0,
         1 => n,
         2 => n / 2,
+        4 => n / 4,
         _ => n / by,
     }
-}
-
-// The divisor goes into n, and 0 into 0 alone.
-pub fn divides(by: usize, n: usize) -> bool
-    ensures { result ≡ eqb (n % by) 0 }
-{
-    match by {
-        0 => n == 0,
-        1 => true,
-        2 => n % 2 == 0,
-        _ => n % by == 0,
-    }
-}
-
-// One of the three ratios.
-pub fn one_of(ratio: usize) -> bool
-    ensures { result ≡ (eqb ratio 1 || eqb ratio 2 || eqb ratio 4) }
-{
-    matches!(ratio, 1 | 2 | 4)
 }
 
 // A ratio of these sizes.
 pub fn ratioed(ratio: usize, width: usize, height: usize) -> bool
     ensures { result ≡ is_ratio ratio (width, height) }
 {
-    one_of(ratio) & divides(ratio, width) & divides(ratio, height)
+    match ratio {
+        1 => true,
+        2 => width.is_multiple_of(2) && height.is_multiple_of(2),
+        4 => width.is_multiple_of(4) && height.is_multiple_of(4),
+        _ => false,
+    }
 }
 
-// A slice of this length has so many rows a pitch apart and `more` entries after them. No product wraps.
+// A slice of this length has so many rows a pitch apart and `more` entries after them.
 pub fn holds(size: usize, rows: usize, pitch: usize, more: usize) -> bool
     ensures { result ≡ leb (rows * pitch + more) size }
 {
-    if size < more {
-        return false;
-    }
-    if rows <= 65536 && pitch <= 65536 {
-        return rows * pitch <= size - more;
-    }
-    if pitch == 0 {
-        true
-    } else {
-        rows <= (size - more) / pitch
-    }
+    rows as u128 * pitch as u128 + more as u128 <= size as u128
 }
 
 // A byte plane's length.
 pub fn planed(size: usize, pitch: usize, width: usize, height: usize) -> bool
     ensures { result ≡ leb ((height - 1) * pitch + width) size }
 {
-    if height == 0 {
-        width <= size
-    } else {
-        holds(size, height - 1, pitch, width)
-    }
+    holds(size, height.saturating_sub(1), pitch, width)
 }
 
 // The length of a slice of a layer: two numbers for each entry of its rows.
@@ -157,21 +129,16 @@ pub fn layered(size: usize, pitch: usize, rows: usize) -> bool
 pub fn is_product(n: usize, a: usize, b: usize) -> bool
     ensures { result ≡ eqb n (a * b) }
 {
-    if b == 0 {
-        n == 0
-    } else {
-        divides(b, n) & (n / b == a)
-    }
+    n as u128 == a as u128 * b as u128
 }
 
 // A slice of this length has exactly so many entries for each place of so many rows.
 pub fn exact(size: usize, many: usize, width: usize, height: usize) -> bool
     ensures { result ≡ eqb size (many * (width * height)) }
 {
-    if many == 0 {
-        size == 0
-    } else {
-        divides(many, size) & is_product(size / many, width, height)
+    match size.checked_div(many) {
+        None => size == 0,
+        Some(each) => size.is_multiple_of(many) & is_product(each, width, height),
     }
 }
 
@@ -203,7 +170,9 @@ pub fn plane_ratio(ratio: usize, plane: usize) -> usize
 
 // The place of an entry: of rows a pitch apart, this row and column.
 pub fn place(row: usize, pitch: usize, col: usize) -> usize
-    requires { (row ≤ 65536) × (pitch ≤ 65536) × (col ≤ 65536) }
+    requires row { row ≤ 65536 }
+    requires pitch { pitch ≤ 65536 }
+    requires col { col ≤ 65536 }
     ensures { result ≡ row * pitch + col }
 {
     row * pitch + col

@@ -48,51 +48,39 @@ pub enum Scene {
 #[derive(Clone, Copy)]
 pub enum Refusal {
     // a width, a height or a plane's number
-    Size,
+    Size = 1,
     // a ratio, or a mask's steps
-    Ratio,
+    Ratio = 2,
     // a pitch
-    Pitch,
+    Pitch = 3,
     // a slice's length
-    Length,
+    Length = 4,
     // a number of a motion
-    Movement,
+    Movement = 5,
     // a time, or a setting of fit
-    Setting,
+    Setting = 6,
     // a number of pairs
-    Pairs,
+    Pairs = 7,
     // a record of a parcel that is cut short
-    Cut,
+    Cut = 9,
     // the kinds of a parcel's records
-    Kind,
+    Kind = 10,
     // a parcel's head, or the length of a payload
-    Payload,
+    Payload = 11,
     // a pair or a layer whose turn it isn't
-    Turn,
+    Turn = 12,
 }
 
-impl From<Refusal> for u8 {
+impl From<Refusal> for u64 {
     ghost from_gives = { λ refusal number. number ≡ number_of refusal };
 
-    fn from(refusal: Refusal) -> u8 {
-        match refusal {
-            Refusal::Size => 1,
-            Refusal::Ratio => 2,
-            Refusal::Pitch => 3,
-            Refusal::Length => 4,
-            Refusal::Movement => 5,
-            Refusal::Setting => 6,
-            Refusal::Pairs => 7,
-            Refusal::Cut => 9,
-            Refusal::Kind => 10,
-            Refusal::Payload => 11,
-            Refusal::Turn => 12,
-        }
+    fn from(refusal: Refusal) -> u64 {
+        refusal as u64
     }
 }
 
-// What a call answers that tells sizes: its answer as one number, and the sizes and the ratio, all 0 when refused. It
-// passes to C as it stands.
+// What a call answers that tells sizes: its answer as one number, and the sizes and the ratio, all 0 when refused.
+// Kept: (a) it passes to C as it stands.
 #[repr(C)]
 #[derive(Clone, Copy)]
 pub struct Sizes {
@@ -103,7 +91,8 @@ pub struct Sizes {
 }
 
 // A walk over a clip, as each of its calls gets it and answers it: luma's size and the ratio, the clip's number of
-// pairs, how many of these were added, and how many layers were taken. It passes to C as it stands.
+// pairs, how many of these were added, and how many layers were taken.
+// Kept: (a) it passes to C as it stands.
 #[repr(C)]
 #[derive(Clone, Copy)]
 pub struct Walk {
@@ -115,7 +104,8 @@ pub struct Walk {
     pub taken: usize,
 }
 
-// What a call of a walk answers: its answer as one number, and the walk. It passes to C as it stands.
+// What a call of a walk answers: its answer as one number, and the walk.
+// Kept: (a) it passes to C as it stands.
 #[repr(C)]
 #[derive(Clone, Copy)]
 pub struct Walked {
@@ -125,9 +115,9 @@ pub struct Walked {
 
 // The Rust's tuples on the way to those answers.
 
-// Six sums, or the six terms that a pair of frames adds to them, over moved samples p and the samples i in their place:
-// of both, of squares and products, and how many lie far apart.
-#[derive(Clone, Copy)]
+// Six sums over moved samples p and the samples i in their place: of both, of squares and products, and how many lie far
+// apart.
+#[derive(Clone, Copy, Default)]
 pub struct Sums {
     pub p: f32,
     pub i: f32,

@@ -2,21 +2,19 @@
 -- Assumes nothing.
 use mathlib.Core.Path.{◌≡◌, refl, sym, ◌∙◌}
 use mathlib.Core.Bool.{Bool, true, false, cond, true≢false}
-use Prim.Native.Nat.{ℕ, ◌-◌, ◌*◌, ◌/◌, ◌^◌, ◌≤◌, ◌<◌, min, zero-le}
+use Prim.Native.Nat.{ℕ, ◌-◌, ◌*◌, ◌/◌, ◌^◌, ◌≤◌, ◌<◌, min}
 use native.Mathlib.Nat.{lt_of_le_of_lt, div-lt_iff_lt-mul}
 use native.Mathlib.Omega.{arith}
 use lib.IntN.{pos}
-use lib.Dec.{T, ltb, lt→ltb, le→leb, nltb→le}
-use lib.Ieee.{Float, nan, inf, fin, binary32, up, down, lt, le, of_bits, to_unsigned}
+use lib.Dec.{T, ltb, lt→ltb, nltb→le}
+use lib.Ieee.{Float, nan, inf, fin, up, down, lt, of_bits, to_unsigned, is_nan}
 use lib.Ieee.Fits.{down_pos}
 use Rattle.rules.specs.Literals.{0·0}
-use Rattle.rules.specs.Float.{float, cut, clamp, negative}
+use Rattle.rules.specs.Float.{cut, max, negative}
 use Rattle.rules.specs.Reading.{held_to}
 use Rattle.laws.proofs.Value.{not_of}
-use Rattle.laws.proofs.Order.{not_lt_of_le}
 use Rattle.float.proofs.Index.{cut_nought, cut_clamp}
-use Rattle.laws.proofs.Whole.{zero_is, int_le}
-use Rattle.sample.specs.Points.{positive_of, Held}
+use Rattle.sample.specs.Points.{Held}
 
 -- ---- x where it is above 0
 
@@ -69,8 +67,8 @@ pub record Cuts (x q : Float) : Type 0 where
   pub under : T (lt q (fin false 1 (pos 23)))
   pub is : cut q ≡ cut x
 
-pub cuts : (x : Float) → cut x ≤ 4096 → Cuts x (positive_of x)
-unfolding of_bits negative lt
+pub cuts : (x : Float) → cut x ≤ 4096 → Cuts x (max 0·0 x)
+unfolding of_bits negative lt max is_nan
 cuts x h = go (lt 0·0 x) (λ p. record { sign = unsigned x p; under = small x p h; is = refl }) (none x)
   where
     go : (b : Bool) → (T b → Cuts x x) → (b ≡ false → cut x ≡ 0) → Cuts x (cond b x 0·0)
@@ -79,23 +77,5 @@ cuts x h = go (lt 0·0 x) (λ p. record { sign = unsigned x p; under = small x p
 
 -- ---- held to a side
 
-origin : (n : ℕ) → n ≤ 2 ^ 24 → T (le 0·0 (float n))
-origin n h = rw zero_is at (int_le binary32 (pos 0) (pos n) zero-le h (le→leb 0 n zero-le))
-
--- below 0 first, then past the last: the last is not below 0
-pub low_first : (x : Float) (n : ℕ) → n ≤ 2 ^ 24
-    → cond (lt (float n) (cond (lt x 0·0) 0·0 x)) (float n) (cond (lt x 0·0) 0·0 x) ≡ clamp x 0·0 (float n)
-unfolding clamp
-low_first x n h = go (lt x 0·0) (lt (float n) 0·0) refl (λ t. not_lt_of_le 0·0 (float n) (origin n h) t)
-  where
-    go : (a b : Bool) → b ≡ lt (float n) 0·0 → (T b → ⊥) → cond (lt (float n) (cond a 0·0 x)) (float n) (cond a 0·0 x) ≡ cond a 0·0 (cond (lt (float n) x) (float n) x)
-    go true true e f = absurd (f tt)
-    go true false e f = rw (← e)
-    go false b e f = refl
-
-pub held : (x r : Float) (size : ℕ) → 1 ≤ size → size ≤ 4096 → r ≡ cond (lt (float (size - 1)) (cond (lt x 0·0) 0·0 x)) (float (size - 1)) (cond (lt x 0·0) 0·0 x)
-    → Held x size r
-held x r size some few e =
-    let n : size - 1 ≤ 2 ^ 24 = omega arith in
-    let is : r ≡ held_to x size = e ∙ low_first x (size - 1) n in
-    record { is = is; within = rw is (lt_of_le_of_lt (cut_clamp x (size - 1) n) (omega arith)) }
+pub held : (x r : Float) (size : ℕ) → 1 ≤ size → size ≤ 4096 → r ≡ held_to x size → Held x size r
+held x r size some few is = record { is = is; within = rw is (lt_of_le_of_lt (cut_clamp x (size - 1) (omega arith)) (omega arith)) }

@@ -1,16 +1,11 @@
 -- What the readers of a byte plane ask and give.
-use Rattle.std.specs.Prelude.{◌≡◌, cond, List, ℕ, ◌+◌, ◌-◌, ◌*◌, ◌≤◌, ◌<◌, length, Float}
+use Rattle.std.specs.Prelude.{◌≡◌, List, ℕ, ◌+◌, ◌-◌, ◌*◌, ◌≤◌, ◌<◌, length, Float}
 use Rattle.rules.specs.declared.Taps.{Taps}
 use Rattle.rules.specs.Forms.{Plane}
-use Rattle.rules.specs.Literals.{0·0}
-use Rattle.rules.specs.Float.{◌≺◌, cut, mix}
+use Rattle.rules.specs.Float.{cut, mix}
 use Rattle.rules.specs.Reading.{after, fraction, at, held_to}
 use Rattle.calls.specs.Lent.{plane_of}
 use Rattle.sample.specs.declared.View.{View}
-
--- x where it is above 0, else 0
-abbrev pub positive_of : Float → Float
-positive_of x = cond (0·0 ≺ x) x 0·0
 
 -- a view's plane
 abbrev pub plane_by : View → Plane

@@ -5,7 +5,7 @@ ghost use Rattle.std.specs.Prelude.{◌≡◌, ◌+◌, ◌*◌, ◌<◌, ◌≤
 ghost use Rattle.rules.specs.Float.{float, cut, ◌⊕◌};
 ghost use Rattle.rules.specs.Reading.{at as at_of};
 ghost use Rattle.calls.specs.Lent.{plane_of};
-ghost use Rattle.sample.specs.Points.{positive_of, PlaneFits, Held, Within, around, sampled_row, sampled_at};
+ghost use Rattle.sample.specs.Points.{PlaneFits, Held, Within, around, sampled_row, sampled_at};
 
 use rules::Taps;
 
@@ -26,24 +26,15 @@ impl<'p> View<'p> {
     }
 }
 
-// x where it is above 0, and 0 for a NaN too.
-// Kept: (a) the largest of two floats is an own helper.
-fn positive(x: f32) -> f32
-    ensures { result ≡ positive_of x }
-{
-    if x > 0.0 { x } else { 0.0 }
-}
-
 // The whole number below a point of a plane.
 pub fn whole(x: f32) -> u32
     requires { cut x ≤ 4096 }
     ensures { result ≡ cut x }
 {
-    float::cut_low(positive(x))
+    float::cut_low(float::max(0.0, x))
 }
 
-// A coordinate held to the plane. Below 0 first: two tests that make no branch.
-// Kept: (a) a float is held by an own helper.
+// A coordinate held to the plane.
 // Kept: (d) a side of 1 to 4096 is asked here and below, as an index is of a slice: a side as a value would be made
 // anew from a grid's or a plane's number for each point.
 pub fn held(x: f32, size: usize) -> f32
@@ -51,9 +42,7 @@ pub fn held(x: f32, size: usize) -> f32
     requires few { size ≤ 4096 }
     ensures { Held x size result }
 {
-    let low = if x < 0.0 { 0.0 } else { x };
-    let last = float::of_size(size - 1);
-    if last < low { last } else { low }
+    float::clamp(x, 0.0, float::of_size(size - 1))
 }
 
 // A pixel's coordinate, moved and held to the plane.
@@ -97,8 +86,7 @@ pub fn at(raw: &[u8], pitch: usize, x: usize, y: usize) -> f32
     requires long { y * pitch + x < length raw.now }
     ensures { result ≡ at_of (plane_of raw.now pitch) x y }
 {
-    let k = plane::place(y, pitch, x);
-    float::of_byte(raw[k])
+    f32::from(raw[plane::place(y, pitch, x)])
 }
 
 // Two bytes of a row, mixed.

@@ -7,6 +7,7 @@ ghost use Rattle.rules.specs.Unpeel.{relaid as relaid_of};
 ghost use Rattle.scene_lift.specs.Means.{means, Makes};
 
 use rules::{Model, Ring, Scene};
+use std::hint;
 
 // A sample as it was before the layer.
 pub fn lift(sample: f32, model: Model) -> f32
@@ -81,8 +82,12 @@ pub fn relaid(model: Model, first: f32, second: f32, time: f32, old: f32) -> f32
     let middle = float::median(old, lift(first, model), lift(second, model));
     let laid = model.gain * middle + model.offset;
     let change = first - second;
-    let below = plane::chosen(-change <= 2.5, mixed, laid);
-    let apart = plane::chosen(change <= 2.5, below, laid);
+    let below = hint::select_unpredictable(-change <= 2.5, mixed, laid);
+    let apart = hint::select_unpredictable(change <= 2.5, below, laid);
     let gain = model.gain;
-    plane::chosen(gain < 0.2, plane::chosen(-gain < 0.2, mixed, apart), apart)
+    hint::select_unpredictable(
+        gain < 0.2,
+        hint::select_unpredictable(-gain < 0.2, mixed, apart),
+        apart,
+    )
 }

@@ -7,11 +7,12 @@ use Prim.Native.Nat.{ℕ, ◌*◌}
 use native.Mathlib.Omega.{arith}
 use lib.ListN.{length}
 use lib.Ieee.{Float}
+use Rattle.std.proofs.lemmas.Bool.{and_parts}
 use Rattle.rules.specs.Forms.{each, area, shrunk}
 use Rattle.rules.specs.Calls.{StatsCall}
 use Rattle.rules.specs.Domain.{sums_length, chroma_sums_length, is_pitch, is_plane, motion_lengths, motion_numbers}
 use Rattle.rules.specs.Refusals.{stats_refusal}
-use Rattle.laws.proofs.Accepted.{row_right, both, Side, sizes_in, ratio_in, exact_in}
+use Rattle.laws.proofs.Accepted.{row_right, Side, sizes_in, ratio_in, exact_in}
 use Rattle.sample.specs.declared.View.{View}
 use Rattle.sample.specs.Points.{plane_by, PlaneFits}
 use Rattle.motion.specs.Moves.{Moves}
@@ -22,12 +23,12 @@ use Rattle.motion_limits.proofs.Accepted.{plane_in, moves_in}
 
 -- each of two, or of four
 two : (a b : Bool) → (a && (b && true)) ≡ true → (a ≡ true) × (b ≡ true)
-two a b e = let t = both a (b && true) e in (t.0, (both b true t.1).0)
+two a b e = let t = and_parts a (b && true) e in (t.0, (and_parts b true t.1).0)
 
 four : (a b c d : Bool) → (a && (b && (c && (d && true)))) ≡ true → ((a ≡ true) × (b ≡ true)) × ((c ≡ true) × (d ≡ true))
 four a b c d e =
-    let t = both a (b && (c && (d && true))) e in
-    let u = both b (c && (d && true)) t.1 in
+    let t = and_parts a (b && (c && (d && true))) e in
+    let u = and_parts b (c && (d && true)) t.1 in
     ((t.0, u.0), two c d u.1)
 
 module _ (luma chroma1 chroma2 : List Float) (p : Pair) (n : Numbers) where

@@ -6,7 +6,7 @@ use native.Mathlib.Nat.{div-add-mod, div-div-eq-div-mul, mul-add, mul_assoc, mul
 use native.Mathlib.Omega.{arith}
 use borrow.Author.Tests.{eqb-true, eq-eqb}
 use lib.Dec.{eqb}
-use Rattle.laws.proofs.Accepted.{both}
+use Rattle.std.proofs.lemmas.Bool.{and_parts}
 use Rattle.plane.proofs.Laws.{tests_same}
 use Rattle.still_pass.proofs.Accepted.{and_true}
 
@@ -39,7 +39,7 @@ module _ (a b n : ℕ) where
     where
       there : (eqb (n % a) 0 && eqb (n / a % b) 0) ≡ true → eqb (a * b * (n / (a * b))) n ≡ true
       there t =
-          let p = both (eqb (n % a) 0) (eqb (n / a % b) 0) t in
+          let p = and_parts (eqb (n % a) 0) (eqb (n / a % b) 0) t in
           let x = eqb-true (n % a) 0 p.0 in
           let y = eqb-true (n / a % b) 0 p.1 in
           let z : a * (n / a % b) ≡ 0 = rw (y, mul-zero) in

@@ -121,9 +121,9 @@ pub fn stepped(mask: &[u8], numbers: Numbers) -> bool
     let cells = mask.len();
     let across = plane::divided(numbers.mask_width, numbers.width);
     let rows = plane::divided(cells, numbers.mask_width);
-    let exact = plane::divides(numbers.mask_width, cells) & plane::divides(numbers.height, rows);
+    let exact = cells.is_multiple_of(numbers.mask_width) & rows.is_multiple_of(numbers.height);
     let down = step_down(cells, numbers.mask_width, numbers.height);
-    whole_step(plane::divides(numbers.width, numbers.mask_width), across) & whole_step(exact, down)
+    whole_step(numbers.mask_width.is_multiple_of(numbers.width), across) & whole_step(exact, down)
 }
 
 // Its steps.

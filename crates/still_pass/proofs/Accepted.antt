@@ -7,9 +7,10 @@ use native.Mathlib.Nat.{mul-le-mul_right}
 use native.Mathlib.Omega.{arith}
 use borrow.Author.Tests.{leb-true}
 use lib.ListN.{length}
+use Rattle.std.proofs.lemmas.Bool.{and_parts}
 use Rattle.rules.specs.Forms.{Plane, each}
 use Rattle.rules.specs.Domain.{are_sizes, is_pitch, is_plane, have_pitches, have_lengths}
-use Rattle.laws.proofs.Accepted.{both, sizes_in, pitch_in}
+use Rattle.laws.proofs.Accepted.{sizes_in, pitch_in}
 use Rattle.still_pass.specs.Pass.{PlaneIn}
 
 pub and_true : (a b : Bool) → a ≡ true → b ≡ true → (a && b) ≡ true
@@ -21,8 +22,8 @@ pub first_in : (p : Plane) (rest : List Plane) (size : ℕ × ℕ) → are_sizes
 unfolding each
 first_in p rest size s pitches lengths =
     let z = sizes_in size s in
-    let a = both (is_pitch p.pitch size.0) (have_pitches rest size) pitches in
-    let b = both (is_plane p size) (have_lengths rest size) lengths in
+    let a = and_parts (is_pitch p.pitch size.0) (have_pitches rest size) pitches in
+    let b = and_parts (is_plane p size) (have_lengths rest size) lengths in
     (record { narrow = z.0.1; low = z.1.1; apart = (pitch_in p.pitch size.0 a.0).1; inside = leb-true _ _ b.0 }, a.1, b.1)
 
 -- a pixel lies within the bytes

@@ -5,6 +5,8 @@ ghost use Rattle.std.specs.Prelude.{◌≡◌, Bool, ℕ, cond, ◌*◌, ◌≤�
 ghost use Rattle.rules.specs.Float.{float, mix, pixel as pixel_of};
 ghost use Rattle.rules.specs.Still.{weighed as weighed_of};
 
+use std::hint;
+
 // The sum of a pixel's mask cells, and how many they are.
 #[derive(Clone, Copy)]
 pub struct Weight {
@@ -97,8 +99,8 @@ impl Work for Apply<'_> {
         if skips & !mixes {
             return old;
         }
-        let a = float::of_byte(self.first[k]);
-        let b = float::of_byte(self.second[k]);
-        plane::chosen(mixes, float::pixel(float::mix(a, b, self.time)), old)
+        let a = f32::from(self.first[k]);
+        let b = f32::from(self.second[k]);
+        hint::select_unpredictable(mixes, float::pixel(float::mix(a, b, self.time)), old)
     }
 }

@@ -79,7 +79,7 @@ fn same_at(frames: Frames, settings: Settings, x: usize, right: usize, y: usize,
 {
     let k = plane::place(y, frames.pitch, x);
     let apart = frames.first[k].abs_diff(frames.second[k]);
-    let change = float::of_byte(apart) / 255.0;
+    let change = f32::from(apart) / 255.0;
     let a = detail_at(frames.first, frames, x, right, y, below);
     let b = detail_at(frames.second, frames, x, right, y, below);
     u8::from(is_same(change, a, b, settings))

@@ -1,16 +1,17 @@
 -- A table is filled entry by entry, in any order. Assumes nothing.
 use mathlib.Core.Path.{◌≡◌, refl, ◌∙◌}
-use mathlib.Core.Logic.{◌⊎◌, inl, inr, ⊎_elim}
+use mathlib.Core.Logic.{◌⊎◌, ⊎_elim}
 use mathlib.Core.Bool.{Bool, true, false}
 use mathlib.Core.List.{List}
 use Prim.Native.Nat.{ℕ, suc, ◌+◌, ◌-◌, ◌*◌, ◌≤◌, ◌<◌}
 use native.Mathlib.Nat.{eq-or-lt_of_le}
 use native.Mathlib.Omega.{arith}
-use borrow.Author.Tests.{ltb-true, ltb-false, eqb-true, eqb-false}
-use lib.Dec.{ltb, eqb}
+use borrow.Author.Tests.{eqb-true, eqb-false}
+use lib.Dec.{eqb}
 use lib.IntN.{ℤ, pos}
 use lib.ListN.{length, set, length-set}
 use lib.Seq.{get_or-set_same, get_or-set_other}
+use Rattle.std.proofs.lemmas.Bool.{cases_lt}
 use Rattle.rules.specs.Forms.{tabulate}
 use Rattle.table.specs.Filled.{Filled, entry_of, Paired}
 use Rattle.laws.proofs.Lists.{is_table}
@@ -29,13 +30,6 @@ last k n h = eq-or-lt_of_le (omega arith)
 pub filled_more : {A : Type 0} {f before after : ℕ → A} {lo hi : ℕ} → Filled f before lo hi → after hi ≡ f hi
     → ((k : ℕ) → k < hi → after k ≡ before k) → Filled f after lo (hi + 1)
 filled_more {hi = hi} done e same k low high = ⊎_elim (λ q. rw q e) (λ b. same k b ∙ done k low b) (last k hi (omega arith))
-
-order : (a b : ℕ) → (a < b) ⊎ (b ≤ a)
-order a b = go (ltb a b) refl
-  where
-    go : (t : Bool) → ltb a b ≡ t → (a < b) ⊎ (b ≤ a)
-    go true e = inl (ltb-true a b e)
-    go false e = inr (ltb-false a b e)
 
 -- ---- both halves of a slice
 
@@ -85,14 +79,14 @@ pub paired_join : {f : ℕ → ℤ} {half lo mid hi : ℕ} {before now after : L
     → Paired f half lo hi before after
 paired_join {half = half} {mid = mid} a b =
     record {
-      first = λ k low high. ⊎_elim (λ h. b.kept k (a.first k low h)) (λ h. b.first k h high) (order k mid);
-      second = λ k low high. ⊎_elim (λ h. b.kept (half + k) (a.second k low h)) (λ h. b.second k h high) (order k mid);
+      first = λ k low high. ⊎_elim (λ h. b.kept k (a.first k low h)) (λ h. b.first k h high) (cases_lt k mid);
+      second = λ k low high. ⊎_elim (λ h. b.kept (half + k) (a.second k low h)) (λ h. b.second k h high) (cases_lt k mid);
       kept = λ k e. b.kept k (a.kept k e);
     }
 
 -- all of them: the slice is the table
 pub paired_whole : {f : ℕ → ℤ} {half : ℕ} {before after : List ℤ} → Paired f half 0 half before after → length after ≡ 2 * half → after ≡ tabulate (2 * half) f
-paired_whole {f} {half} {before} {after} done e = is_table (2 * half) f after (pos 0) e (λ k h. ⊎_elim (λ b. done.first k (omega arith) b) (λ b. upper k b h) (order k half))
+paired_whole {f} {half} {before} {after} done e = is_table (2 * half) f after (pos 0) e (λ k h. ⊎_elim (λ b. done.first k (omega arith) b) (λ b. upper k b h) (cases_lt k half))
   where
     upper : (k : ℕ) → half ≤ k → k < 2 * half → entry_of after k ≡ f k
     upper k low high =

@@ -5,8 +5,9 @@ use mathlib.Core.List.{[], ◌∷◌, ◌++◌}
 use Prim.Native.Nat.{ℕ}
 use borrow.Author.Tests.{not-true}
 use lib.Dec.{eqb}
+use Rattle.std.proofs.lemmas.Bool.{and_parts}
 use Rattle.rules.specs.Refusals.{Table, ◌unless◌, first_fitting}
-use Rattle.laws.proofs.Accepted.{both, numbered}
+use Rattle.laws.proofs.Accepted.{numbered}
 
 -- a row, as `unless` gives it, before a table that is done
 pub row : {a right : Bool} (n : ℕ) {u v : ℕ} (rows : Table) → u ≡ cond (not a) n v → a ≡ right → v ≡ first_fitting rows → u ≡ first_fitting ((n unless right) ∷ rows)
@@ -23,7 +24,7 @@ pub late : (rows : Table) → numbered rows ≡ true → (last : ℕ) (right : B
 unfolding first_fitting
 late [] e last right = refl
 late (row ∷ rest) e last right =
-    let t = both (not (eqb row.0 0)) (numbered rest) e in
+    let t = and_parts (not (eqb row.0 0)) (numbered rest) e in
     first row.1 row.0 _ _ last right (not-true (eqb row.0 0) t.0) (late rest t.1 last right)
   where
     first : (fits : Bool) (n all rest last : ℕ) (right : Bool) → eqb n 0 ≡ false → all ≡ after last right rest → cond fits n all ≡ after last right (cond fits n rest)

@@ -5,6 +5,24 @@ ghost use Rattle.std.specs.Prelude.{◌≡◌, ◌+◌, ◌*◌, ◌<◌, ◌≤
 ghost use Rattle.rules.specs.Forms.{cells as cells_of};
 ghost use Rattle.table.specs.Models.{model_put};
 
+use rules::Model;
+
+// What a luma pixel is fitted with: its model, and its offset of each chroma plane.
+#[derive(Clone, Copy)]
+pub struct Fitted {
+    pub model: Model,
+    pub chroma: (f32, f32),
+}
+
+// A pixel for which nothing is found.
+pub const UNFITTED: Fitted = Fitted {
+    model: Model {
+        gain: 1.0,
+        offset: 0.0,
+    },
+    chroma: (0.0, 0.0),
+};
+
 // How many cells lie along a side: the whole ones, and one more where these are not all of it.
 pub fn cells(size: usize) -> usize
     ensures { result ≡ cells_of size }
@@ -32,13 +50,13 @@ pub fn put_pair(slice: &mut [i16], half: usize, k: usize, first: i16, second: i1
 }
 
 // The four floats of luma pixel `at`.
-pub fn put_model(models: &mut [f32], at: usize, gain: f32, offset: f32, first: f32, second: f32)
+pub fn put_model(models: &mut [f32], at: usize, fitted: Fitted)
     requires { at * 4 + 4 ≤ length models.old }
-    ensures { models.new ≡ model_put models.old at gain offset first second }
+    ensures { models.new ≡ model_put models.old at fitted.model.gain fitted.model.offset fitted.chroma.0 fitted.chroma.1 }
 {
     let k = at * 4;
-    models[k] = gain;
-    models[k + 1] = offset;
-    models[k + 2] = first;
-    models[k + 3] = second;
+    models[k] = fitted.model.gain;
+    models[k + 1] = fitted.model.offset;
+    models[k + 2] = fitted.chroma.0;
+    models[k + 3] = fitted.chroma.1;
 }

@@ -46,6 +46,6 @@ pub fn told<T: Count>(done: Result<T, Refusal>) -> u64
 {
     match done {
         Ok(answer) => answer.count() * 256,
-        Err(refusal) => u64::from(u8::from(refusal)),
+        Err(refusal) => u64::from(refusal),
     }
 }

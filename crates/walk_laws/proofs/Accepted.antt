@@ -3,32 +3,26 @@
 use mathlib.Core.Path.{◌≡◌, refl}
 use mathlib.Core.Bool.{Bool, true, false, cond, ◌&&◌, ◌||◌}
 use mathlib.Core.List.{List, [], ◌∷◌}
-use Prim.Native.Nat.{ℕ, zero, suc, ◌+◌, ◌-◌, ◌*◌, ◌%◌, ◌<◌}
+use Prim.Native.Nat.{ℕ, ◌+◌, ◌-◌, ◌*◌, ◌%◌, ◌<◌}
 use native.Mathlib.Omega.{arith}
 use borrow.Author.Tests.{le-leb}
 use lib.Dec.{leb, ltb, eqb}
-use lib.ListN.{length, get_or}
+use lib.ListN.{length}
 use Rattle.rules.specs.declared.Walk.{Walk}
-use Rattle.rules.specs.Forms.{Slot, Part, each, absent, shrunk}
+use Rattle.rules.specs.Forms.{Slot, Part, absent, shrunk}
 use Rattle.rules.specs.Literals.{0·0, 0·5, 255·0, 65536·0}
 use Rattle.rules.specs.Float.{within}
 use Rattle.rules.specs.Calls.{StatsCall, WalkPairCall, WalkLayerCall}
 use Rattle.rules.specs.Domain.{kept_length, are_sizes, is_ratio, have_pitches, have_lengths, are_sums, are_slots, is_fit, are_models, is_cover, motion_lengths, motion_numbers}
 use Rattle.rules.specs.Refusals.{◌unless◌, Table, first_fitting, size_rows, is_neighbour, lumas, chromas, pair_rows, work_rows, stats_refusal, fit_refusal}
 use Rattle.rules.specs.Walk.{chunks, chunk_of, pairs_in, is_due, is_left, is_turn, part_in, around, walk_size, pair_stats, walk_pair_refusal, layer_fit, walk_layer_refusal}
-use Rattle.laws.proofs.Accepted.{both, row_right, numbered}
+use Rattle.laws.proofs.Accepted.{row_right, numbered}
+use Rattle.laws.proofs.Lists.{each_at}
 use Rattle.walk_laws.proofs.Due.{Due, due_in, Turn, turn_in}
-
--- each of a list
-each_in : {A : Type 0} (test : A → Bool) (list : List A) (d : A) → each test list ≡ true → (k : ℕ) → k < length list → test (get_or list k d) ≡ true
-unfolding each
-each_in test [] d e k h = absurd (omega arith)
-each_in test (a ∷ rest) d e zero h = (both (test a) (each test rest) e).0
-each_in test (a ∷ rest) d e (suc k) h = each_in test rest d (both (test a) (each test rest) e).1 k (omega arith)
 
 -- the sums of a chunk have their lengths
 pub slot_long : (w : Walk) (slots : List Slot) → length slots ≡ 3 → are_slots slots (walk_size w) w.ratio ≡ true → (c : ℕ) → are_sums (part_in w slots c) (walk_size w) w.ratio ≡ true
-slot_long w slots three e c = each_in _ slots ([], [], []) e (c % 3) (rw three (omega arith))
+slot_long w slots three e c = each_at _ slots ([], [], []) e (c % 3) (rw three (λ p. absurd (omega arith)))
 
 -- ---- a pair
 

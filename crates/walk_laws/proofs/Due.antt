@@ -6,14 +6,9 @@ use Prim.Native.Nat.{ℕ, ◌+◌, ◌-◌, ◌*◌, ◌≤◌, ◌<◌}
 use native.Mathlib.Omega.{arith}
 use borrow.Author.Tests.{leb-true, leb-false, ltb-true, eqb-true, le-leb, lt-ltb, eq-eqb, not-true}
 use lib.Dec.{leb, ltb, eqb}
+use Rattle.std.proofs.lemmas.Bool.{and_parts, or_cases}
 use Rattle.rules.specs.declared.Walk.{Walk}
 use Rattle.rules.specs.Walk.{chunks, is_complete, is_ready, is_due, is_left, is_turn}
-use Rattle.laws.proofs.Accepted.{both}
-
--- one of two tests holds
-pub one_of : (a b : Bool) → (a || b) ≡ true → (a ≡ true) ⊎ (b ≡ true)
-one_of true b e = inl refl
-one_of false b e = inr e
 
 -- a layer that is ready: there is one, and its next chunk is complete or the clip is
 pub record Ready (pairs added c : ℕ) : Type 0 where
@@ -22,8 +17,8 @@ pub record Ready (pairs added c : ℕ) : Type 0 where
 
 pub ready_in : (pairs added c : ℕ) → is_ready pairs added c ≡ true → Ready pairs added c
 ready_in pairs added c e =
-    let t = both (ltb c (chunks pairs)) (is_complete added (c + 1) || eqb added pairs) e in
-    record { exists = ltb-true c (chunks pairs) t.0; complete = either (one_of (is_complete added (c + 1)) (eqb added pairs) t.1) }
+    let t = and_parts (ltb c (chunks pairs)) (is_complete added (c + 1) || eqb added pairs) e in
+    record { exists = ltb-true c (chunks pairs) t.0; complete = either (or_cases (is_complete added (c + 1)) (eqb added pairs) t.1) }
   where
     either : (is_complete added (c + 1) ≡ true) ⊎ (eqb added pairs ≡ true) → (12 * (c + 2) ≤ added) ⊎ (added ≡ pairs)
     either (inl l) = inl (omega (arith, leb-true (12 * (c + 1 + 1)) added l))
@@ -51,9 +46,9 @@ left_in w e =
     let first = leb w.added w.pairs in
     let second : Bool = eqb w.taken 0 || is_ready w.pairs w.added (w.taken - 1) in
     let third : Bool = eqb w.added 0 || not (is_ready w.pairs (w.added - 1) w.taken) in
-    let t = both (first && second) third e in
-    let u = both first second t.0 in
-    record { inside = leb-true _ _ u.0; last = last (one_of _ _ u.1); next = next (one_of _ _ t.1) }
+    let t = and_parts (first && second) third e in
+    let u = and_parts first second t.0 in
+    record { inside = leb-true _ _ u.0; last = last (or_cases _ _ u.1); next = next (or_cases _ _ t.1) }
   where
     last : (eqb w.taken 0 ≡ true) ⊎ (is_ready w.pairs w.added (w.taken - 1) ≡ true) → (w.taken ≡ 0) ⊎ Ready w.pairs w.added (w.taken - 1)
     last (inl l) = inl (eqb-true _ _ l)
@@ -103,7 +98,7 @@ pub record Due (w : Walk) : Type 0 where
 
 pub due_in : (w : Walk) → (is_left w && is_due w) ≡ true → Due w
 due_in w e =
-    let t = both (is_left w) (is_due w) e in
+    let t = and_parts (is_left w) (is_due w) e in
     let l = left_in w t.0 in
     let r = ready_in w.pairs w.added w.taken t.1 in
     record {
@@ -135,7 +130,7 @@ pub record Turn (w : Walk) (number : ℕ) : Type 0 where
 
 pub turn_in : (w : Walk) (number : ℕ) → is_turn w number ≡ true → Turn w number
 turn_in w number e =
-    let t = both (is_left w && eqb number w.added && ltb w.added w.pairs) (not (is_due w)) e in
-    let u = both (is_left w && eqb number w.added) (ltb w.added w.pairs) t.0 in
-    let v = both (is_left w) (eqb number w.added) u.0 in
+    let t = and_parts (is_left w && eqb number w.added && ltb w.added w.pairs) (not (is_due w)) e in
+    let u = and_parts (is_left w && eqb number w.added) (ltb w.added w.pairs) t.0 in
+    let v = and_parts (is_left w) (eqb number w.added) u.0 in
     record { left = v.0; own = eqb-true _ _ v.1; more = ltb-true _ _ u.1; none = not-true _ t.1 }

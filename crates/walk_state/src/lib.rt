@@ -139,7 +139,7 @@ pub fn told(done: Result<Walk, Refusal>, old: Walk) -> Walked
     match done {
         Ok(walk) => Walked { word: 0, walk },
         Err(refusal) => Walked {
-            word: u64::from(u8::from(refusal)),
+            word: u64::from(refusal),
             walk: old,
         },
     }

@@ -9,6 +9,7 @@ use borrow.Author.Tests.{eqb-true, leb-true, leb-false, eq-eqb, lt-ltb}
 use lib.Dec.{leb, eqb}
 use lib.ListN.{length, set, length-set}
 use lib.Ieee.{Float}
+use Rattle.std.proofs.lemmas.Bool.{and_parts}
 use Rattle.rules.specs.declared.Walk.{Walk}
 use Rattle.rules.specs.Forms.{Plane, Motion, Pair, each, area}
 use Rattle.rules.specs.Literals.{0·0, 0·5, 255·0, 65536·0}
@@ -18,7 +19,7 @@ use Rattle.rules.specs.Domain.{sums_length, chroma_sums_length, kept_length, are
 use Rattle.rules.specs.Refusals.{first_fitting, pair_rows, work_rows}
 use Rattle.rules.specs.Stats.{added, stats_sums}
 use Rattle.rules.specs.Walk.{chunks, chunk_of, is_due, is_left, is_turn, walk_size, moved, started, walk_start_refusal, pair_stats, walk_pair_refusal, pair_slots, layer_fit, walk_layer_refusal}
-use Rattle.laws.proofs.Accepted.{both, row_right}
+use Rattle.laws.proofs.Accepted.{row_right}
 use Rattle.laws.proofs.Lists.{length-tabulate}
 use Rattle.walk_laws.proofs.Due.{Ready, ready_in, ready_out, Left, left_out}
 use Rattle.walk_laws.proofs.Accepted.{pair_right, one_row, turn}
@@ -69,8 +70,8 @@ left_layer w l due = record { inside = l.inside; last = inr (rw (one_back w.take
 each_set : {A : Type 0} (test : A → Bool) (list : List A) (k : ℕ) (a : A) → each test list ≡ true → test a ≡ true → each test (set list k a) ≡ true
 unfolding each
 each_set test [] k a e h = refl
-each_set test (x ∷ xs) zero a e h = rw h (both (test x) (each test xs) e).1
-each_set test (x ∷ xs) (suc k) a e h = let t = both (test x) (each test xs) e in rw t.0 (each_set test xs k a t.1 h)
+each_set test (x ∷ xs) zero a e h = rw h (and_parts (test x) (each test xs) e).1
+each_set test (x ∷ xs) (suc k) a e h = let t = and_parts (test x) (each test xs) e in rw t.0 (each_set test xs k a t.1 h)
 
 exact_out : (luma : List Float) (chroma : List Float × List Float) (lengths : ℕ × ℕ) → length luma ≡ lengths.0 → length chroma.0 ≡ lengths.1 → length chroma.1 ≡ lengths.1
     → are_exact luma chroma lengths ≡ true
@@ -106,7 +107,7 @@ fine_layer : (s : Stand) (asked : Asked) → Fine s → walk_layer_refusal (take
     → Fine (record { walk = moved s.walk s.walk.added (s.walk.taken + 1); slots = s.slots })
 unfolding walk_layer_refusal
 fine_layer s asked f e =
-    let t = both (is_left s.walk) (is_due s.walk) (row_right _ refl e 9 _ refl) in
+    let t = and_parts (is_left s.walk) (is_due s.walk) (row_right _ refl e 9 _ refl) in
     record { sizes = f.sizes; ratio = f.ratio; three = f.three; lengths = f.lengths; left = left_layer s.walk f.left t.1 }
 
 fine_call : (s : Stand) (c : Call) → Fine s → Fine (after s c)

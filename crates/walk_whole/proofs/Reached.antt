@@ -11,6 +11,7 @@ use lib.Dec.{eqb}
 use lib.IntN.{pos}
 use lib.ListN.{length, replicate, length-replicate}
 use lib.Ieee as Ieee
+use Rattle.std.proofs.lemmas.Bool.{and_parts}
 use Rattle.rules.specs.declared.Walk.{Walk}
 use Rattle.rules.specs.Forms.{Plane, Pair, Slot, each, shrunk}
 use Rattle.rules.specs.Literals.{0·0, 0·5, 2·0, 255·0, 65536·0}
@@ -18,7 +19,7 @@ use Rattle.rules.specs.Float.{within}
 use Rattle.rules.specs.Domain.{plane_length, models_length, kept_length, cover_length, fit_length, fit_chroma_length, are_sizes, is_ratio, is_pitch, is_plane, are_slots}
 use Rattle.rules.specs.Refusals.{first_fitting, pair_rows, work_rows}
 use Rattle.rules.specs.Walk.{is_ready, is_due, is_left, walk_size, moved, walk_start_refusal, pair_stats, walk_pair_refusal, layer_fit, walk_layer_refusal}
-use Rattle.laws.proofs.Accepted.{both, row_right, Side, sizes_in, ratio_in}
+use Rattle.laws.proofs.Accepted.{row_right, Side, sizes_in, ratio_in}
 use Rattle.walk_laws.proofs.Due.{Ready, ready_in, ready_out, Left, left_in}
 use Rattle.walk_laws.proofs.Accepted.{turn}
 use Rattle.walk_whole.specs.Calls.{Stand, Asked, Call, pair_call, layer_call, handed, taken, begin, after, after_all}
@@ -237,5 +238,5 @@ pub layer_reached : LayerReached
 unfolding walk_layer_refusal
 layer_reached s asked three e =
     let ok = row_right _ refl e in
-    let left = (both (is_left s.walk) (is_due s.walk) (ok 9 _ refl)).0 in
+    let left = (and_parts (is_left s.walk) (is_due s.walk) (ok 9 _ refl)).0 in
     each_reached s.walk s.slots (start_right (walk_size s.walk) s.walk.ratio (ok 0 _ refl) (ok 1 _ refl)) three (ok 2 _ refl) left

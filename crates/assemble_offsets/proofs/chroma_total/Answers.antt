@@ -28,8 +28,11 @@ place-place-requires c =
     let f = c.requires.formed in
     let b = c.requires.block in
     let r = luma_row a.sizes f a.x a.y 0 c.loop-dy.dy b.left b.above f.ratio.0 c.loop-dy-test.true in
-    let k = luma_column a.sizes f a.x a.y 0 c.loop-dy.dy b.left b.above f.ratio.0 c.loop-dy-test.true in
-    omega (arith, c.place-in-loop-dy.ensures, c.place.ensures)
+    let k = luma_column a.sizes f a.x a.y 0 c.loop-dy.dy b.left b.above f.ratio.0 c.loop-dy-test.true in record {
+      row = omega (arith, c.place-in-loop-dy.ensures, c.place.ensures);
+      pitch = omega (arith, c.place-in-loop-dy.ensures, c.place.ensures);
+      col = omega (arith, c.place-in-loop-dy.ensures, c.place.ensures);
+    }
 
 pub total_row-sum-requires : goal.total_row-sum-requires
 total_row-sum-requires c =

@@ -1,13 +1,12 @@
 -- What is left to answer of `distances::distances`'s goals.
 use native.Mathlib.Omega.{arith}
-use Rattle.std.proofs.lemmas.Result.{err_from_is_err_and}
+use Rattle.laws.proofs.Answered.{handed}
 use Rattle.distances.proofs.Passes.{refused, ran}
 use Rattle.distances.proofs.distances.Goals as goal
 
 pub returns-in_err-ensure : goal.returns-in_err-ensure
 returns-in_err-ensure c =
-    let p = err_from_is_err_and c.from_residual.result c.from_residual.ensures.1 in
-    rw (p.1, p.2, c.in_err-ensure.ensures.1) (refused _ _ c.in_err-ensure.ensures.0)
+    rw (handed c.from_residual.result c.from_residual.ensures.1, c.in_err-ensure.ensures.1) (refused _ _ c.in_err-ensure.ensures.0)
 
 pub returns : goal.returns
 returns c =

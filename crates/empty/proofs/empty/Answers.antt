@@ -1,6 +1,6 @@
 -- What is left to answer of `empty::empty`'s goals.
 use mathlib.Core.Path.{refl, sym, ◌∙◌}
-use Rattle.std.proofs.lemmas.Result.{err_from_is_err_and}
+use Rattle.laws.proofs.Answered.{handed}
 use Rattle.rules.specs.Reading.{empty}
 use Rattle.empty.proofs.Rows.{in_rows}
 use Rattle.empty.proofs.Replies.{refused, ran}
@@ -17,8 +17,7 @@ invariant_of-rows_unmarked g c =
 
 pub returns-in_err-empty_refusal : goal.returns-in_err-empty_refusal
 returns-in_err-empty_refusal g c =
-    let p = err_from_is_err_and c.from_residual.result c.from_residual.ensures.1 in
-    rw (p.1, p.2) (refused _ _ _ c.in_err-empty_refusal.ensures)
+    rw (handed c.from_residual.result c.from_residual.ensures.1) (refused _ _ _ c.in_err-empty_refusal.ensures)
 
 pub returns : goal.returns
 unfolding empty

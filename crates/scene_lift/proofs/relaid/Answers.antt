@@ -15,10 +15,10 @@ returns c =
     let d = a.first ⊖ a.second in
     let again = g ⊗ median a.old (lift a.first a.model) (lift a.second a.model) ⊕ a.model.offset in
     rw (
-      c.chosen-2.ensures,
-      c.chosen.ensures,
-      c.chosen-apart.ensures,
-      c.chosen-below.ensures,
+      c.select_unpredictable-2.ensures,
+      c.select_unpredictable.ensures,
+      c.select_unpredictable-apart.ensures,
+      c.select_unpredictable-below.ensures,
       c.median-middle.ensures,
       c.lift-2.ensures,
       c.lift.ensures,

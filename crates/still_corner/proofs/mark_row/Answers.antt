@@ -14,7 +14,7 @@ loop-x-init c = λ same h.
     let a = c.args in
     -- the row above is a row of the plane
     let up : c.saturating_sub-above.result < a.height = omega arith in
-    let first = c.column_at-mid.ensures ∙ column_is same (a.width, a.height) a.still.now 0 _ a.y _ h c.requires.some up c.requires.row c.after-below.ensures.1 in
+    let first = c.column_at-mid.ensures ∙ column_is same (a.width, a.height) a.still.now 0 _ a.y _ h c.requires.some up c.requires.row c.after-below.ensures.inside in
     (none_marked same (a.width, a.height) a.y a.still.now h, first, first)
 
 pub bounds-still-k : goal.bounds-still-k
@@ -35,8 +35,8 @@ loop-x-preserved c =
     let in_list : a.y * a.width + x < length c.loop-x.still = omega (arith, pixel_in c.requires.room inside c.requires.row) in
     λ same h.
     let i = c.loop-x.invariant same h in
-    let right = c.column_at-right.ensures ∙ column_is same size c.loop-x.still (x + 1) _ a.y _ i.0.holds beside up c.requires.row c.after-below.ensures.1 in
-    let v = c.mark.ensures ∙ mark_is same size x a.y inside c.requires.row _ _ _ _ _ (x + 1) c.saturating_sub-above.ensures c.after-below.ensures.0 next i.2 i.1 right in
+    let right = c.column_at-right.ensures ∙ column_is same size c.loop-x.still (x + 1) _ a.y _ i.0.holds beside up c.requires.row c.after-below.ensures.inside in
+    let v = c.mark.ensures ∙ mark_is same size x a.y inside c.requires.row _ _ _ _ _ (x + 1) c.saturating_sub-above.ensures c.after-below.ensures.is next i.2 i.1 right in
     (rw c.place-k.ensures (row_marked same size x a.y inside c.requires.row _ _ _ i.0 in_list v), right, rw back i.1)
 
 pub returns : goal.returns
@@ -49,5 +49,5 @@ returns c = λ same h.
     let whole : last + 1 ≡ a.width = omega arith in
     let in_list : a.y * a.width + last < length c.loop-x.still = omega (arith, pixel_in c.requires.room inside c.requires.row) in
     let i = rw (le_antisymm c.loop-x.auto.x-end c.loop-x-test.false) at (c.loop-x.invariant same h) in
-    let v = c.mark-2.ensures ∙ mark_is same size last a.y inside c.requires.row _ _ _ _ _ last c.saturating_sub-above.ensures c.after-below.ensures.0 next i.2 i.1 i.1 in
+    let v = c.mark-2.ensures ∙ mark_is same size last a.y inside c.requires.row _ _ _ _ _ last c.saturating_sub-above.ensures c.after-below.ensures.is next i.2 i.1 i.1 in
     rw c.place-k-2.ensures (rw whole at (row_marked same size last a.y inside c.requires.row _ _ _ i.0 in_list v))
