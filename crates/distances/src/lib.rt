@@ -26,8 +26,8 @@ fn lowest(cells: &[u8], at: usize, left: usize, mid: usize, right: usize, beside
     nearer(nearer(own, row), beside)
 }
 
-// Kept: (b) one walk, generic in what comes next, for this row and row_back, for pass_down and pass_back: it proves, and
-// takes 4.7 ns a cell, not 4.5.
+// Kept: (b) one walk, generic in what comes next, for this row and row_back, for pass_down and pass_back: it proves,
+// and takes 4.7 ns a cell, not 4.5.
 // A row of the first pass, from left to right. Columns and rows are held to the grid: a cell may be read as its own
 // neighbour, which lowers nothing.
 fn row_down(cells: &mut [u8], row: usize, up: usize, width: usize)

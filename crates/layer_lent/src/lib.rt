@@ -1,4 +1,5 @@
-// A layer that is lent as numbers or as little-endian bytes: one body reads both. And a layer with its plan, as one value.
+// A layer that is lent as numbers or as little-endian bytes: one body reads both. And a layer with its plan, as one
+// value.
 #![tactic(auto)]
 
 ghost use Rattle.std.specs.Prelude.{◌≡◌, ◌<◌, ⊤, List, ℕ, ℤ, pos, length, get_or};

@@ -27,7 +27,7 @@ pub fn four(bytes: &[u8], at: usize) -> usize
 }
 
 // A whole record: its kind, and its payload.
-// Kept: a kind is a number, as it stands in the bytes: a parcel that comes may hold unknown ones.
+// Kept: (d) a kind is a number, as it stands in the bytes: a parcel that comes may hold unknown ones.
 #[derive(Clone, Copy)]
 pub struct Piece<'p> {
     pub kind: usize,

@@ -115,8 +115,8 @@ pub struct Walked {
 
 // The Rust's tuples on the way to those answers.
 
-// Six sums over moved samples p and the samples i in their place: of both, of squares and products, and how many lie far
-// apart.
+// Six sums over moved samples p and the samples i in their place: of both, of squares and products, and how many lie
+// far apart.
 #[derive(Clone, Copy, Default)]
 pub struct Sums {
     pub p: f32,
