@@ -11,8 +11,8 @@ ghost use Rattle.empty.specs.Marks.{row_unmarked, rows_unmarked, InRow, InRows};
 use layer_lent::{Lent, Shape, Sheet};
 use rules::Refusal;
 
-// The least of a row's numbers, each read as a number without a sign, and of those before a column: it is 0 where one of
-// them is. The row is gone through to its end, in a loop without a branch.
+// The least of a row's numbers, each read as a number without a sign, and of those before a column: it is 0 where one
+// of them is. The row is gone through to its end, in a loop without a branch.
 #[tactic(auto, unfolding(rules::specs::Forms::turns, rules::specs::Forms::all), using(crate::proofs::Rows::least_more))]
 fn least<L: Lent>(sheet: Sheet<L>, y: usize, width: usize, from: usize, before: u16) -> u16
     requires row { InRow sheet.plan y width }
