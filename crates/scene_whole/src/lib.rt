@@ -61,7 +61,7 @@ fn gathered_at<L: Lent>(seen: &Seen<L>, x: usize, y: usize, ring: Ring) -> Ring
     ensures { let plan = seen.now.sheet.plan in
         result ≡ gathered (seen_of (lay plan.shape (L.held seen.now.sheet.layer)) plan.shape.plane (plane_of seen.now.raw.now seen.now.pitch) x y) ring }
 {
-    let total = layer_numbers::gains(seen.sheet, x, y);
+    let total = layer_numbers::gains(seen.sheet.plan, seen.sheet.layer, x, y);
     if layer_model::strong(total, seen.sheet.plan.span) {
         scene_lift::added(ring, lifted_at(seen, x, y, total))
     } else {
