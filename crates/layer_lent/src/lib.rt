@@ -157,7 +157,7 @@ pub struct Seen<'r, L: Lent> {
 impl<L: Lent> Copy for Seen<'_, L> {}
 
 impl<L: Lent> Clone for Seen<'_, L> {
-    ghost is_clone = { λ a b. b.raw.now ≡ a.raw.now };
+    ghost is_clone = { λ a b. (b.sheet ≡ a.sheet) × (b.raw.now ≡ a.raw.now) × (b.pitch ≡ a.pitch) };
 
     ghost is_infallible = { λ _. ⊤ };
 

@@ -3,10 +3,10 @@
 
 ghost use Rattle.std.specs.Prelude.{◌≡◌, ◌<◌, ◌≤◌, pos, nat_abs, length, get_or};
 ghost use Rattle.rules.specs.Reading.{luma_gain, luma_offset, stored_chroma};
-ghost use Rattle.layer_lent.specs.Lent.{lay, Inside};
+ghost use Rattle.layer_lent.specs.Lent.{lay, LumaLong, Planned, Inside};
 ghost use Rattle.layer_numbers.specs.Stored.{RowFits, Added, RowSummed, Summed};
 
-use layer_lent::{Lent, Sheet};
+use layer_lent::{Lent, Plan, Sheet};
 use rules::{Gain, Offset};
 
 // The gain that is number k of the luma slice.
@@ -48,50 +48,58 @@ fn gain_row<L: Lent, const SPAN: usize>(
 }
 
 // The gain of a pixel that has one.
-pub fn luma_gain<L: Lent>(sheet: Sheet<L>, x: usize, y: usize) -> Gain
-    requires inside { Inside sheet.plan x y }
-    requires one { sheet.plan.span ≡ 1 }
-    ensures { result ≡ luma_gain (lay sheet.plan.shape (L.held sheet.layer)) x y }
+pub fn luma_gain<L: Lent>(plan: Plan, layer: L, x: usize, y: usize) -> Gain
+    requires planned { Planned plan }
+    requires inside { Inside plan x y }
+    requires long { LumaLong plan (L.held layer 0) }
+    requires one { plan.span ≡ 1 }
+    ensures { result ≡ luma_gain (lay plan.shape (L.held layer)) x y }
 {
-    gain(sheet.layer, plane::place(y, sheet.plan.shape.luma_pitch, x))
+    gain(layer, plane::place(y, plan.shape.luma_pitch, x))
 }
 
 // The total of a pixel's gains, row by row, by a span that is a constant.
 #[tactic(auto, using(crate::proofs::Sums::block_none, crate::proofs::Sums::block_more, crate::proofs::Places::row_fits))]
-pub fn block<L: Lent, const SPAN: usize>(sheet: Sheet<L>, x: usize, y: usize) -> i32
-    requires inside { Inside sheet.plan x y }
-    requires same { sheet.plan.span ≡ SPAN }
-    ensures { Summed sheet.plan (L.held sheet.layer 0) x y result }
+pub fn block<L: Lent, const SPAN: usize>(plan: Plan, layer: L, x: usize, y: usize) -> i32
+    requires planned { Planned plan }
+    requires inside { Inside plan x y }
+    requires long { LumaLong plan (L.held layer 0) }
+    requires same { plan.span ≡ SPAN }
+    ensures { Summed plan (L.held layer 0) x y result }
 {
     let mut sum = 0;
     for dy in 0..SPAN {
         let row = plane::place(y, SPAN, dy);
-        sum = gain_row::<L, SPAN>(sheet.layer, row, sheet.plan.shape.luma_pitch, x, sum);
+        sum = gain_row::<L, SPAN>(layer, row, plan.shape.luma_pitch, x, sum);
     }
     sum
 }
 
 // And by the plan's.
-pub fn gains<L: Lent>(sheet: Sheet<L>, x: usize, y: usize) -> i32
-    requires { Inside sheet.plan x y }
-    ensures { Summed sheet.plan (L.held sheet.layer 0) x y result }
+pub fn gains<L: Lent>(plan: Plan, layer: L, x: usize, y: usize) -> i32
+    requires planned { Planned plan }
+    requires inside { Inside plan x y }
+    requires long { LumaLong plan (L.held layer 0) }
+    ensures { Summed plan (L.held layer 0) x y result }
 {
-    match sheet.plan.span {
-        1 => block::<L, 1>(sheet, x, y),
-        2 => block::<L, 2>(sheet, x, y),
-        _ => block::<L, 4>(sheet, x, y),
+    match plan.span {
+        1 => block::<L, 1>(plan, layer, x, y),
+        2 => block::<L, 2>(plan, layer, x, y),
+        _ => block::<L, 4>(plan, layer, x, y),
     }
 }
 
 // The offset of a luma pixel.
-pub fn luma_offset<L: Lent>(sheet: Sheet<L>, x: usize, y: usize) -> Offset
-    requires inside { Inside sheet.plan x y }
-    requires luma { sheet.plan.shape.plane ≡ 0 }
-    ensures { result ≡ luma_offset (lay sheet.plan.shape (L.held sheet.layer)) x y }
+pub fn luma_offset<L: Lent>(plan: Plan, layer: L, x: usize, y: usize) -> Offset
+    requires planned { Planned plan }
+    requires inside { Inside plan x y }
+    requires long { LumaLong plan (L.held layer 0) }
+    requires luma { plan.shape.plane ≡ 0 }
+    ensures { result ≡ luma_offset (lay plan.shape (L.held layer)) x y }
 {
-    let shape = sheet.plan.shape;
+    let shape = plan.shape;
     let k = plane::place(shape.height + y, shape.luma_pitch, x);
-    Offset(sheet.layer.entry(0, k))
+    Offset(layer.entry(0, k))
 }
 
 // And of a chroma pixel.

@@ -17,8 +17,9 @@ fn luma_model<L: Lent>(sheet: Sheet<L>, x: usize, y: usize) -> Model
     requires luma { sheet.plan.shape.plane ≡ 0 }
     ensures { result ≡ texel_of (lay sheet.plan.shape (L.held sheet.layer)) sheet.plan.shape.plane x y }
 {
-    let gain = layer_numbers::luma_gain(sheet, x, y);
-    layer_model::luma_texel(gain, layer_numbers::luma_offset(sheet, x, y))
+    let gain = layer_numbers::luma_gain(sheet.plan, sheet.layer, x, y);
+    let offset = layer_numbers::luma_offset(sheet.plan, sheet.layer, x, y);
+    layer_model::luma_texel(gain, offset)
 }
 
 // The model of a chroma pixel with this total of gains. The span is the plan's, so that it can be a constant.
@@ -60,7 +61,7 @@ pub fn straight<L: Lent, const LUMA: bool, const SPAN: usize>(
     if LUMA {
         return luma_model(sheet, x, y);
     }
-    let total = layer_numbers::block::<L, SPAN>(sheet, x, y);
+    let total = layer_numbers::block::<L, SPAN>(sheet.plan, sheet.layer, x, y);
     chroma_model(sheet, SPAN, x, y, total)
 }
 
@@ -69,6 +70,6 @@ pub fn texel<L: Lent>(sheet: Sheet<L>, x: usize, y: usize) -> Model
     requires { Inside sheet.plan x y }
     ensures { result ≡ texel_of (lay sheet.plan.shape (L.held sheet.layer)) sheet.plan.shape.plane x y }
 {
-    let total = layer_numbers::gains(sheet, x, y);
+    let total = layer_numbers::gains(sheet.plan, sheet.layer, x, y);
     texel_of(sheet, x, y, total)
 }

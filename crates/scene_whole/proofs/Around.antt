@@ -19,7 +19,7 @@ use Rattle.rules.specs.Scene.{sign, under, point, stepped, ring, filled}
 use Rattle.laws.proofs.Whole.{mul_int}
 use Rattle.scene_lift.specs.Means.{means}
 use Rattle.layer_lent.specs.declared.Plan.{Plan}
-use Rattle.layer_lent.specs.Lent.{holding, ratio_of, Planned, Inside}
+use Rattle.layer_lent.specs.Lent.{holding, Planned, Inside}
 use Rattle.scene_whole.specs.Rings.{held_at, seen, gathered_on, row_ring, whole_ring}
 use Rattle.laws.proofs.Points.{model_whole}
 use Rattle.scene_whole.proofs.Points.{sample_whole}
@@ -114,19 +114,10 @@ module _ (l : Layer) (plane : ℕ) (raw : Plane) (small : (k : ℕ) → get_or r
 
 -- ---- over the plane of a plan
 
--- half a cell's side is 4 luma pixels
-half : (n : ℕ) → n ≤ 4 → 8 / n / 2 ≡ 4 / n
-half zero h = refl
-half (suc zero) h = refl
-half (suc (suc zero)) h = refl
-half (suc (suc (suc zero))) h = refl
-half (suc (suc (suc (suc zero)))) h = refl
-half (suc (suc (suc (suc (suc n))))) h = absurd (omega arith)
-
 module _ (p : Plan) (luma first second : List ℤ) (raw : Plane) (x y : ℕ) (h : Planned p) (i : Inside p x y) (small : (k : ℕ) → get_or raw.bytes k 0 ≤ 255) where
   pub planned_filled : (v : Float) → filled (holding p.shape luma first second) p.shape.plane raw (float x) (float y) (Raw v)
-      ≡ means (λ times. whole_ring (holding p.shape luma first second) p.shape.plane raw (p.across, p.down) x y (p.side / 2 * times) 3) 3 (Raw v)
+      ≡ means (λ times. whole_ring (holding p.shape luma first second) p.shape.plane raw (p.across, p.down) x y (4 / p.span * times) 3) 3 (Raw v)
   planned_filled v =
-      rw (h.is, half (ratio_of p.shape) (rw h.is at h.span.1))
+      rw h.is
       (filled_is (holding p.shape luma first second) p.shape.plane raw small x y (rw h.is at i.left) (rw h.is at i.above)
       (rw h.is at h.wide.1) (rw h.is at h.tall.1) (rw h.is at h.span.0) (rw h.is at h.span.1) (rw h.is at h.power) v)

@@ -61,7 +61,7 @@ fn gathered_at<L: Lent>(seen: &Seen<L>, x: usize, y: usize, ring: Ring) -> Ring
     ensures { let plan = seen.now.sheet.plan in
         result ≡ gathered (seen_of (lay plan.shape (L.held seen.now.sheet.layer)) plan.shape.plane (plane_of seen.now.raw.now seen.now.pitch) x y) ring }
 {
-    let total = layer_numbers::gains(seen.sheet, x, y);
+    let total = layer_numbers::gains(seen.sheet.plan, seen.sheet.layer, x, y);
     if layer_model::strong(total, seen.sheet.plan.span) {
         scene_lift::added(ring, lifted_at(seen, x, y, total))
     } else {
@@ -100,15 +100,28 @@ fn ring_row<L: Lent>(seen: &Seen<L>, band: Band, ring: Ring) -> Ring
     grown
 }
 
-// The ring at so many times the radius of the first, which is half a cell's side: 4 luma pixels.
-#[tactic(auto, unfolding(rules::specs::Forms::turns, crate::specs::Rings::whole_ring))]
+// How far the first ring lies: 4 luma pixels. Each quotient is a constant.
+fn fill_step(span: usize) -> usize
+    requires some { 1 ≤ span }
+    requires few { span ≤ 4 }
+    ensures { result ≡ 4 / span }
+{
+    match span {
+        1 => 4,
+        2 => 2,
+        _ => 1,
+    }
+}
+
+// The ring at so many times the radius of the first.
+#[tactic(auto, using(crate::proofs::Around::radius_in), unfolding(rules::specs::Forms::turns, crate::specs::Rings::whole_ring))]
 fn ring<L: Lent>(seen: &Seen<L>, x: usize, y: usize, times: usize) -> Ring
     requires inside { Inside seen.now.sheet.plan x y }
     requires few { times ≤ 3 }
     ensures { let plan = seen.now.sheet.plan in
-        result ≡ whole_ring (lay plan.shape (L.held seen.now.sheet.layer)) plan.shape.plane (plane_of seen.now.raw.now seen.now.pitch) (plan.across, plan.down) x y (plan.side / 2 * times) 3 }
+        result ≡ whole_ring (lay plan.shape (L.held seen.now.sheet.layer)) plan.shape.plane (plane_of seen.now.raw.now seen.now.pitch) (plan.across, plan.down) x y (4 / plan.span * times) 3 }
 {
-    let radius = seen.sheet.plan.side / 2 * times;
+    let radius = fill_step(seen.sheet.plan.span) * times;
     let mut grown = Ring {
         total: 0.0,
         count: 0.0,

@@ -6,6 +6,5 @@ use Rattle.layer_numbers.proofs.block.Goals as goal
 
 pub returns : goal.returns
 returns g c =
-    let s = c.args.sheet in
     let e : c.loop-dy.dy ≡ g.row.SPAN = omega arith in
-    of_block s.plan s.sound.planned _ _ _ _ _ c.requires.same (rw e at c.loop-dy.invariant)
+    of_block c.args.plan c.requires.planned _ _ _ _ _ c.requires.same (rw e at c.loop-dy.invariant)

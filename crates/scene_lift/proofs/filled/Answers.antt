@@ -5,6 +5,8 @@ use Rattle.scene_lift.specs.Means.{means}
 use Rattle.scene_lift.proofs.Means.{means_by}
 use Rattle.scene_lift.proofs.filled.Goals as goal
 
+-- Where a ring has any, its mean is what is filled;
+-- where it has none, what is filled is what those behind it give.
 pub returns-in-Some : goal.returns-in-Some
 returns-in-Some g c rings makes =
     let at-loop = c.loop-times in

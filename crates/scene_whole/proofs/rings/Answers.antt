@@ -12,6 +12,6 @@ returns g c =
     let s = c.args.seen in
     let p = s.sheet.plan in
     let rings = λ (times : ℕ). whole_ring (lay p.shape (g.L.Lent.held s.sheet.layer)) p.shape.plane (record { bytes = s.raw.now; pitch = s.pitch })
-    (p.across, p.down) c.args.x c.args.y (p.side / 2 * times) 3 in
+    (p.across, p.down) c.args.x c.args.y (4 / p.span * times) 3 in
     c.filled.ensures rings (grind serving)
     ∙ sym (planned_filled p _ _ _ _ _ _ s.sheet.sound.planned c.requires c.small.ensures _)
