@@ -16,6 +16,19 @@ row_sum bytes row width x across = turns (λ dx n. n + get_or bytes (row * width
 unfoldable pub sum_of : List ℕ → (width across down x y rows : ℕ) → ℕ
 sum_of bytes width across down x y rows = turns (λ dy. row_sum bytes (y * down + dy) width x across across) rows 0
 
+-- the cells of pixel (x, y) lie within the mask
+pub record PixelCells (bytes : List ℕ) (width across down x y : ℕ) : Type 0 where
+  pub near : x ≤ 65536
+  pub high : y ≤ 65536
+  pub some_across : 1 ≤ across
+  pub some_down : 1 ≤ down
+  pub few_across : across ≤ 8
+  pub few_down : down ≤ 8
+  pub narrow : width ≤ 65536
+  pub left : x * across + across ≤ width
+  pub low : y * down + down ≤ 65536
+  pub inside : (y * down + down) * width ≤ length bytes
+
 -- the mask has so many cells for each pixel of a plane
 pub record PlaneCells (bytes : List ℕ) (width across down : ℕ) (size : ℕ × ℕ) : Type 0 where
   pub narrow : size.0 ≤ 4096

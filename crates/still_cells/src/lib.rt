@@ -1,10 +1,10 @@
 // The mask cells of a pixel: the steps from pixels to cells, and the sum of a pixel's cells.
 #![tactic(auto)]
 
-ghost use Rattle.std.specs.Prelude.{◌≡◌, ℕ, ◌&&◌, ◌+◌, ◌*◌, ◌/◌, ◌≤◌, ◌<◌, leb};
+ghost use Rattle.std.specs.Prelude.{◌≡◌, ℕ, ◌&&◌, ◌+◌, ◌*◌, ◌/◌, ◌≤◌, leb};
 ghost use Rattle.rules.specs.Domain.{are_steps};
 ghost use Rattle.calls.specs.Lent.{mask_of};
-ghost use Rattle.still_cells.specs.Cells.{sum_of, steps_of, PlaneCells};
+ghost use Rattle.still_cells.specs.Cells.{sum_of, steps_of, PixelCells};
 
 // The numbers of a call of hold or apply: the plane's width and height, the pitch of what is read and that of the
 // output, and the mask's width.
@@ -145,11 +145,9 @@ pub fn cell_count<C: Cells>(steps: C) -> u32
 }
 
 // "the byte sum" of a pixel.
-pub fn byte_sum<C: Cells>(mask: &[u8], numbers: Numbers, steps: C, x: usize, y: usize) -> u32
-    requires cells { PlaneCells mask.now numbers.mask_width (C.across steps) (C.down steps) (numbers.width, numbers.height) }
-    requires column { x < numbers.width }
-    requires row { y < numbers.height }
-    ensures sum { result ≡ sum_of mask.now numbers.mask_width (C.across steps) (C.down steps) x y (C.down steps) }
+pub fn byte_sum<C: Cells>(mask: &[u8], width: usize, steps: C, x: usize, y: usize) -> u32
+    requires { PixelCells mask.now width (C.across steps) (C.down steps) x y }
+    ensures sum { result ≡ sum_of mask.now width (C.across steps) (C.down steps) x y (C.down steps) }
     ensures few { result ≤ 255 * (C.across steps * C.down steps) }
 {
     let across = steps.across();
@@ -157,7 +155,7 @@ pub fn byte_sum<C: Cells>(mask: &[u8], numbers: Numbers, steps: C, x: usize, y: 
     let mut n = 0;
     for dy in 0..down {
         let row = plane::place(y, down, dy);
-        let first = plane::place(row, numbers.mask_width, x * across);
+        let first = plane::place(row, width, x * across);
         n += still_run::run(&mask[first..first + across]);
     }
     n

@@ -55,7 +55,7 @@ impl<'m, W: Work, C: Cells> Job<'m, W, C> {
         for x in 0..numbers.width {
             let k = plane::place(y, numbers.output_pitch, x);
             let from = plane::place(y, numbers.pitch, x);
-            let sum = still_cells::byte_sum(self.mask, numbers, self.steps, x, y);
+            let sum = still_cells::byte_sum(self.mask, numbers.mask_width, self.steps, x, y);
             let weight = Weight { sum, cells };
             output[k] = self.work.pixel(from, output[k], weight, C::SKIPS);
         }

@@ -31,6 +31,10 @@ pub filled_more : {A : Type 0} {f before after : ℕ → A} {lo hi : ℕ} → Fi
     → ((k : ℕ) → k < hi → after k ≡ before k) → Filled f after lo (hi + 1)
 filled_more {hi = hi} done e same k low high = ⊎_elim (λ q. rw q e) (λ b. same k b ∙ done k low b) (last k hi (omega arith))
 
+-- two stretches, one after the other
+pub filled_join : {A : Type 0} {f read : ℕ → A} {lo mid hi : ℕ} → Filled f read lo mid → Filled f read mid hi → Filled f read lo hi
+filled_join {mid = mid} a b k low high = ⊎_elim (λ h. a k low h) (λ h. b k h high) (cases_lt k mid)
+
 -- ---- both halves of a slice
 
 -- what f says is stored at place j: there it is so, and what it said of an entry before is so still

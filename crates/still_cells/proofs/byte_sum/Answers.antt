@@ -13,17 +13,17 @@ loop-dy-init g c = record { sum = refl; few = omega arith }
 
 pub slice_bounds-run-end : goal.slice_bounds-run-end
 slice_bounds-run-end g c =
-    let cells = rw (← c.across-across.ensures, ← c.down-down.ensures) at c.requires.cells in
-    let inside = row_inside c.args.mask.now _ _ _ c.args.x c.args.y c.loop-dy.dy _ cells c.requires.column c.requires.row c.loop-dy-test.true in
+    let cells = rw (← c.across-across.ensures, ← c.down-down.ensures) at c.requires in
+    let inside = row_inside c.args.mask.now _ _ _ c.args.x c.args.y c.loop-dy.dy cells c.loop-dy-test.true in
     let end : c.place-first.result + c.across-across.result ≤ length c.args.mask.now = omega (arith, inside, rw c.place-row.ensures at c.place-first.ensures) in
     search rules
 
 pub overflow_add-n : goal.overflow_add-n
 overflow_add-n g c =
-    let cells = rw (← c.across-across.ensures, ← c.down-down.ensures) at c.requires.cells in
+    let cells = rw (← c.across-across.ensures, ← c.down-down.ensures) at c.requires in
     let few = cells.few_across in
     let low = cells.few_down in
-    let r = row_added c.loop-dy.n cells c.requires.column c.requires.row c.loop-dy-test.true c.place-row.ensures c.place-first.ensures c.run-n.ensures.whole c.run-n.ensures.few in
+    let r = row_added c.loop-dy.n cells c.loop-dy-test.true c.place-row.ensures c.place-first.ensures c.run-n.ensures.whole c.run-n.ensures.few in
     let rows : c.loop-dy.dy ≤ 8 = omega arith in
     let each : 255 * c.across-across.result ≤ 2040 = omega arith in
     record { fits = omega (arith, mul-le-mul rows each, c.loop-dy.invariant.few, r.1) }
@@ -32,8 +32,8 @@ pub loop-dy-preserved : goal.loop-dy-preserved
 unfolding turns sum_of
 loop-dy-preserved g c =
     let l = c.loop-dy in
-    let cells = rw (← c.across-across.ensures, ← c.down-down.ensures) at c.requires.cells in
-    let r = row_added l.n cells c.requires.column c.requires.row c.loop-dy-test.true c.place-row.ensures c.place-first.ensures c.run-n.ensures.whole c.run-n.ensures.few in
+    let cells = rw (← c.across-across.ensures, ← c.down-down.ensures) at c.requires in
+    let r = row_added l.n cells c.loop-dy-test.true c.place-row.ensures c.place-first.ensures c.run-n.ensures.whole c.run-n.ensures.few in
     record { sum = rw add-one (rw (← l.invariant.sum) r.0); few = row_more _ _ _ _ l.invariant.few (omega (arith, r.1)) }
 
 pub returns-clause-sum : goal.returns-clause-sum
