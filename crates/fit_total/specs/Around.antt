@@ -1,21 +1,20 @@
--- Three parts of one pixel as the rules take them, and their totals.
-use Rattle.std.specs.Prelude.{Bool, ◌&&◌, List, [], ℕ, Float}
+-- Three parts of one pixel as the rules take them, and what a trial adds of them.
+use Rattle.std.specs.Prelude.{Bool, ◌&&◌, List, [], Float}
 use Rattle.rules.specs.declared.Trial.{Trial}
 use Rattle.rules.specs.Forms.{Parts}
 use Rattle.rules.specs.Literals.{0·0}
 use Rattle.rules.specs.Float.{◌⊕◌}
-use Rattle.rules.specs.Window.{present, plus, has_previous, has_next, sum, total}
-use Rattle.rules.specs.declared.Sums.{Sums}
-use Rattle.calls.specs.Lent.{listed, parts_of}
+use Rattle.rules.specs.Window.{present, plus, has_previous, has_next}
+use Rattle.calls.specs.Lent.{listed}
 use Rattle.fit_total.specs.declared.Added.{Added}
 use Rattle.fit_total.specs.declared.Counts.{Counts}
 use Rattle.fit_total.specs.declared.Plane.{Plane}
 use Rattle.fit_total.specs.declared.Window.{Window}
-use Rattle.fit_total.specs.Counted.{luma_part}
+use Rattle.fit_total.specs.Counted.{luma_part, parts_by}
 
 -- three parts with these luma sums
 abbrev pub luma_parts : (previous own next : List Float) → Counts → Parts
-luma_parts previous own next c = parts_of (luma_part previous c.previous) (luma_part own c.own) (luma_part next c.next)
+luma_parts previous own next c = parts_by previous own next c.previous c.own c.next
 
 -- with those of one plane
 abbrev pub plane_parts : Plane → Counts → Parts
@@ -36,15 +35,3 @@ added_of c trial =
 -- `total`, of the three terms and of whether the neighbours' are added
 abbrev pub total_of : (before after : Bool) → (p o n : Float) → Float
 total_of before after p o n = plus after (plus before 0·0 p ⊕ o) n
-
--- six totals
-abbrev pub totals_of : Parts → Trial → (at : ℕ) → Sums
-totals_of ps trial at =
-    record {
-      p = total ps trial (sum at 0);
-      i = total ps trial (sum at 1);
-      pp = total ps trial (sum at 2);
-      pi = total ps trial (sum at 3);
-      ii = total ps trial (sum at 4);
-      apart = total ps trial (sum at 5);
-    }

@@ -1,11 +1,12 @@
 // Totals over the three parts of a window: what their pixels share, and what a trial adds up.
 #![tactic(auto)]
 
-ghost use Rattle.std.specs.Prelude.{◌≡◌, ◌&&◌, not, cond, [], ◌+◌, ◌≤◌, eqb, length, get_or};
+ghost use Rattle.std.specs.Prelude.{◌≡◌, ◌&&◌, not, cond, ℕ, [], ◌+◌, ◌≤◌, eqb, length, get_or};
 ghost use Rattle.std.specs.Float.{nan};
-ghost use Rattle.rules.specs.Window.{count, plus as plus_of, has_previous, has_next, total};
+ghost use Rattle.rules.specs.Window.{count, present, plus as plus_of, has_previous, has_next, total};
 ghost use Rattle.rules.specs.Literals.{0·0};
-ghost use Rattle.fit_total.specs.Counted.{Counted};
+ghost use Rattle.calls.specs.Lent.{listed};
+ghost use Rattle.fit_total.specs.Counted.{luma_part, parts_by, totals_of, Counted};
 
 use rules::{Sums, Trial};
 
@@ -77,24 +78,77 @@ impl Added {
     }
 }
 
+// Whether a trial adds the previous part, if there is one.
+pub fn adds_previous(trial: Trial, pairs: usize) -> bool
+    ensures { result ≡ (has_previous trial && present (luma_part [] pairs)) }
+{
+    match trial {
+        Trial::All => pairs != 0,
+        Trial::PreviousOwn => pairs != 0,
+        Trial::OwnNext => false,
+    }
+}
+
+// And the next.
+pub fn adds_next(trial: Trial, pairs: usize) -> bool
+    ensures { result ≡ (has_next trial && present (luma_part [] pairs)) }
+{
+    match trial {
+        Trial::All => pairs != 0,
+        Trial::PreviousOwn => false,
+        Trial::OwnNext => pairs != 0,
+    }
+}
+
 // Which neighbours a trial adds, of parts of so many pairs.
 fn neighbours(previous: usize, next: usize, trial: Trial) -> Added
     ensures before { result.before ≡ (has_previous trial && not (eqb previous 0)) }
     ensures after { result.after ≡ (has_next trial && not (eqb next 0)) }
 {
-    let before = previous != 0;
-    let after = next != 0;
-    match trial {
-        Trial::All => Added { before, after },
-        Trial::PreviousOwn => Added {
-            before,
-            after: false,
-        },
-        Trial::OwnNext => Added {
-            before: false,
-            after,
-        },
+    Added {
+        before: adds_previous(trial, previous),
+        after: adds_next(trial, next),
     }
+}
+
+// The six totals of a trial, of a pixel's sums in three parts. The neighbours have `before` and `after` pairs.
+#[inline(always)]
+#[tactic(auto, unfolding(rules::specs::Window::total))]
+pub fn totals(
+    previous: Sums,
+    own: Sums,
+    next: Sums,
+    before: usize,
+    after: usize,
+    trial: Trial,
+) -> Sums
+    ensures { (here : ℕ)
+        → result ≡ totals_of (parts_by (listed previous) (listed own) (listed next) before here after) trial 0 }
+{
+    let added = neighbours(before, after, trial);
+    Sums {
+        p: added.total(previous.p, own.p, next.p),
+        i: added.total(previous.i, own.i, next.i),
+        pp: added.total(previous.pp, own.pp, next.pp),
+        pi: added.total(previous.pi, own.pi, next.pi),
+        ii: added.total(previous.ii, own.ii, next.ii),
+        apart: added.total(previous.apart, own.apart, next.apart),
+    }
+}
+
+// A trial's total of entry k of a plane's slices. The neighbours have `before` and `after` pairs.
+#[inline(always)]
+#[tactic(auto, unfolding(rules::specs::Window::total))]
+pub fn total_at(plane: Plane, before: usize, after: usize, trial: Trial, k: usize) -> f32
+    requires before { 1 ≤ before → k + 1 ≤ length plane.previous.now }
+    requires inside { k + 1 ≤ length plane.own.now }
+    requires after { 1 ≤ after → k + 1 ≤ length plane.next.now }
+    ensures { (here : ℕ) → let lent = plane.entry in
+        result ≡ total (parts_by lent.previous.now lent.own.now lent.next.now before here after) trial (λ p. get_or p.luma k nan) }
+{
+    let previous = entry(plane.previous, k, before);
+    let next = entry(plane.next, k, after);
+    neighbours(before, after, trial).total(previous, plane.own[k], next)
 }
 
 // The counts of parts of so many pairs.
@@ -146,37 +200,30 @@ impl Counts {
     }
 
     // A trial's total of entry k of a plane's slices.
-    #[tactic(auto, unfolding(rules::specs::Window::total))]
     pub fn total_at(&self, plane: Plane, trial: Trial, k: usize) -> f32
         requires alike { Alike self.now plane }
         requires inside { k + 1 ≤ length plane.own.now }
         ensures { result ≡ total (plane_parts plane.entry self.now) trial (λ p. get_or p.luma k nan) }
     {
-        let previous = entry(plane.previous, k, self.previous);
-        let next = entry(plane.next, k, self.next);
-        self.added(trial).total(previous, plane.own[k], next)
+        total_at(plane, self.previous, self.next, trial, k)
     }
 }
 
 impl Window<'_> {
-    ghost use Rattle.fit_total.specs.Around.{around, totals_of};
+    ghost use Rattle.fit_total.specs.Around.{around};
 
     // The six totals of a trial.
-    #[tactic(auto, unfolding(rules::specs::Window::total))]
     pub fn totals(&self, trial: Trial) -> Sums
         ensures { result ≡ totals_of (around self.now) trial 0 }
     {
-        let added = self.counts.added(trial);
-        let previous = self.previous;
-        let own = self.own;
-        let next = self.next;
-        Sums {
-            p: added.total(previous.p, own.p, next.p),
-            i: added.total(previous.i, own.i, next.i),
-            pp: added.total(previous.pp, own.pp, next.pp),
-            pi: added.total(previous.pi, own.pi, next.pi),
-            ii: added.total(previous.ii, own.ii, next.ii),
-            apart: added.total(previous.apart, own.apart, next.apart),
-        }
+        let counts = self.counts;
+        totals(
+            self.previous,
+            self.own,
+            self.next,
+            counts.previous,
+            counts.next,
+            trial,
+        )
     }
 }

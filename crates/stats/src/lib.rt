@@ -78,6 +78,8 @@ pub fn added(
 }
 
 // Adds a pair, or refuses: the contract is the equation for both.
+// Kept: (a) a refusal is handed on by name, and not by a `?`: the wrong program that answers it 0 changes that answer
+// alone, and is refused for it.
 pub fn stats(
     luma: &mut [f32],
     chroma1: &mut [f32],
@@ -88,7 +90,11 @@ pub fn stats(
     ensures { StatsAnswered (stats_by luma.old chroma1.old chroma2.old pair.entry numbers)
         luma.new chroma1.new chroma2.new result }
 {
-    stats_refuse::stats_refusal(luma, chroma1, chroma2, pair, numbers)?;
-    added(luma, chroma1, chroma2, pair, numbers);
-    Ok(())
+    match stats_refuse::stats_refusal(luma, chroma1, chroma2, pair, numbers) {
+        Ok(()) => {
+            added(luma, chroma1, chroma2, pair, numbers);
+            Ok(())
+        }
+        Err(refusal) => Err(refusal),
+    }
 }

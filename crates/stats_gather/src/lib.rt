@@ -11,7 +11,7 @@ use sample::View;
 use stats_batch::{Raster, Run};
 
 // What is added to a plane's sums: the pairs before, the plane in both frames, its size, and how it moves.
-#[derive(Drop)]
+#[derive(Clone, Copy)]
 pub struct Task<'f, 'm, const MANY: usize> {
     pub pairs: usize,
     pub first: View<'f>,
