@@ -1,5 +1,5 @@
-// Byte planes: the tests of sizes, ratios, pitches, lengths and times, the rows of a table of refusals, and one pixel
-// of a pass.
+// Byte planes: the tests of sizes, ratios, pitches, lengths and times, choices without a branch, and one pixel of a
+// pass.
 #![tactic(auto)]
 
 ghost use Rattle.std.specs.Prelude.{◌≡◌, ◌&&◌, ◌||◌, not, cond, ◌+◌, ◌-◌, ◌*◌, ◌/◌, ◌%◌, ◌<◌, ◌≤◌, ◌^◌, min, leb, eqb, length, true, false, MatchResult};
