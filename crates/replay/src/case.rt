@@ -76,22 +76,25 @@ impl<'a> Case<'a> {
         Some(at)
     }
 
-    // How many elements the slice k has, and where they begin; nothing where they are of another width.
-    fn elements(self, k: usize, width: usize) -> Option<(usize, usize)> {
+    // How many elements the slice k has, how many bytes each, and where they begin.
+    fn elements(self, k: usize) -> Option<(usize, usize, usize)> {
         let at = self.slice(k)?;
-        let (n, stored) = self.shape(at)?;
-        (stored == width).then_some((n, at.saturating_add(8)))
+        let (n, width) = self.shape(at)?;
+        Some((n, width, at.saturating_add(8)))
     }
 
-    // The slice k, which has bytes.
+    // The bytes of the slice k, however many each of its elements has.
     pub fn bytes(self, k: usize) -> &'a [u8] {
-        let (n, first) = self.elements(k, 1).unwrap_or((0, 0));
-        self.list.get(first..first.saturating_add(n)).unwrap_or(&[])
+        let (n, width, first) = self.elements(k).unwrap_or((0, 0, 0));
+        self.list
+            .get(first..first.saturating_add(n.saturating_mul(width)))
+            .unwrap_or(&[])
     }
 
-    // The slice k, copied into an array.
+    // The slice k, copied into an array; nothing of it where its elements are of another width.
     pub fn load<'r, S: Stored>(self, k: usize, room: &'r mut [S]) -> &'r mut [S] {
-        let (n, first) = self.elements(k, S::WIDTH).unwrap_or((0, 0));
+        let (n, width, first) = self.elements(k).unwrap_or((0, 0, 0));
+        let n = if width == S::WIDTH { n } else { 0 };
         let n = n.min(room.len());
         let lent = &mut room[..n];
         for (k, number) in lent.iter_mut().enumerate() {
