@@ -62,7 +62,7 @@ impl Parcel<'_> {
         requires { length luma.old ≡ 2 * (self.contents.head.width * self.contents.head.height) }
         ensures { luma.new ≡ (layer_read self.entry.bytes.now).luma }
     {
-        let Contents { head, payloads } = self.contents;
+        let Contents { head, payloads, .. } = self.contents;
         parcel_fill::fill(luma, 0, payloads.gains);
         parcel_fill::fill(luma, head.width * head.height, payloads.offsets);
     }
@@ -73,7 +73,7 @@ impl Parcel<'_> {
         requires { length chroma.old ≡ 2 * points_of self.contents.head }
         ensures { chroma.new ≡ (layer_read self.entry.bytes.now).chroma.0 }
     {
-        let Contents { head, payloads } = self.contents;
+        let Contents { head, payloads, .. } = self.contents;
         let across = plane::divided(head.width, head.ratio);
         let points = across * plane::divided(head.height, head.ratio);
         parcel_fill::fill(chroma, 0, payloads.first);
@@ -86,7 +86,7 @@ impl Parcel<'_> {
         requires { length chroma.old ≡ 2 * points_of self.contents.head }
         ensures { chroma.new ≡ (layer_read self.entry.bytes.now).chroma.1 }
     {
-        let Contents { head, payloads } = self.contents;
+        let Contents { head, payloads, .. } = self.contents;
         let across = plane::divided(head.width, head.ratio);
         let rows = plane::divided(head.height, head.ratio);
         let marks = Marks {

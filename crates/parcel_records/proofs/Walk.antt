@@ -4,7 +4,7 @@ use mathlib.Core.List.{List, []}
 use Prim.Native.Nat.{ℕ, ◌+◌, ◌-◌, ◌≤◌, ◌<◌}
 use native.Mathlib.Omega.{arith}
 use borrow.Author.Tests.{le-leb, lt-leb, eq-eqb, ne_eqb}
-use lib.ListN.{length, take, drop}
+use lib.ListN.{length, take, drop, length-drop}
 use lib.Seq.{drop-drop, get_or-take}
 use Rattle.std.specs.Prelude.{Option, Some, None, Ok, MatchOption}
 use Rattle.std.specs.List.{IsSplitAt}
@@ -12,7 +12,7 @@ use Rattle.rules.specs.Host.{little}
 use Rattle.rules.specs.Parcel.{length_at, records, how_often, payload_of}
 use Rattle.parcel_records.specs.declared.Piece.{Piece}
 use Rattle.parcel_records.specs.declared.Place.{Place}
-use Rattle.parcel_records.specs.Steps.{splits, Begins, count_of, noted_of, Missing, Placed, Counting, Finding}
+use Rattle.parcel_records.specs.Steps.{splits, Lies, Begins, count_of, noted_of, Missing, Placed, Counting, Finding}
 use Rattle.parcel_records.proofs.Split.{opened}
 
 -- ---- a call
@@ -44,6 +44,8 @@ module _ (bytes : List ℕ) where
         record {
           is = opened bytes ∙ rw (le-leb 6 (length bytes) cut.0, le-leb (length_at bytes) (length bytes - 6) long, ← later, ← paid, kind, kind_is);
           fewer = omega (arith, s.4, cut.4);
+          lies = record { inside = omega (arith, s.3, length_is, long, cut.0); are = rw (s.3, length_is) paid };
+          behind = rw (s.3, length_is) later;
         }
 
 -- ---- counting
@@ -58,33 +60,52 @@ module _ (parcel left : List ℕ) (n : ℕ) (c : Counting parcel left n) where
 
 -- ---- finding
 
-module _ (parcel : List ℕ) (kind : ℕ) (left : List ℕ) where
+module _ (parcel : List ℕ) (kind : ℕ) (at : ℕ) (left : List ℕ) where
   module _ (r : Piece) (behind : List ℕ) (b : Begins left r behind) where
+    -- its payload is in the parcel, and what is behind it begins where that ends
+    pub goes : (p : Option Place) → Finding parcel kind p at left → Lies parcel r.payload.now (at + 6) × (behind ≡ drop (at + 6 + length r.payload.now) parcel)
+    goes p f =
+        let few : 0 < length left = omega (arith, b.fewer) in
+        let here = f.here few in
+        let rest : length left ≡ length parcel - at = rw here (length-drop at parcel) in
+        let n = length r.payload.now in
+        let end : at + (6 + n) ≡ at + 6 + n = omega arith in (
+          record { inside = omega (arith, b.lies.inside, rest, few); are = b.lies.are ∙ rw here (rw (drop-drop 6 at parcel)) },
+          b.behind ∙ rw here (drop-drop (6 + n) at parcel ∙ rw end),
+        )
+
     -- a record of another kind
-    pub find_other : (p : Option Place) → (r.kind ≡ kind → ⊥) → Finding parcel kind p left → Finding parcel kind p behind
+    pub find_other : (p : Option Place) → (r.kind ≡ kind → ⊥) → Finding parcel kind p at left → Finding parcel kind p (at + 6 + length r.payload.now) behind
     unfolding how_often payload_of
     find_other p other f =
         let n = ne_eqb r.kind kind other in
-        record { few = omega (arith, b.fewer, f.few); often = rw (b.is, n) at f.often; seen = rw (b.is, n) at f.seen }
+        record { few = omega (arith, b.fewer, f.few); often = rw (b.is, n) at f.often; seen = rw (b.is, n) at f.seen; here = λ h. (goes p f).1 }
 
     -- one of this kind
-    pub find_one : (p : Option Place) → r.kind ≡ kind → Finding parcel kind p left → Finding parcel kind (Some (noted_of p r)) behind
+    pub find_one : (p : Option Place) → r.kind ≡ kind → Finding parcel kind p at left
+        → Finding parcel kind (Some (noted_of p (at + 6) r)) (at + 6 + length r.payload.now) behind
     unfolding how_often payload_of
     find_one None same f =
         let e = eq-eqb r.kind kind same in
-        record { few = omega (arith, b.fewer, f.few); often = omega (arith, rw (b.is, e) at f.often); seen = (omega arith, rw (b.is, e) at f.seen) }
+        let g = goes None f in
+        record { few = omega (arith, b.fewer, f.few); often = omega (arith, rw (b.is, e) at f.often); seen = (omega arith, rw (b.is, e) at f.seen, g.0); here = λ h. g.1 }
     find_one (Some p) same f =
         let e = eq-eqb r.kind kind same in
-        record { few = omega (arith, b.fewer, f.few); often = omega (arith, rw (b.is, e) at f.often); seen = (omega arith, f.seen.1) }
+        record {
+          few = omega (arith, b.fewer, f.few);
+          often = omega (arith, rw (b.is, e) at f.often);
+          seen = (omega arith, f.seen.1, f.seen.2);
+          here = λ h. (goes (Some p) f).1;
+        }
 
   -- one that is cut short: nothing is taken further
-  pub find_cut : (p : Option Place) (none : List ℕ) → splits left ≡ ([], left) → length none ≡ 0 → Finding parcel kind p left → Finding parcel kind p none
+  pub find_cut : (p : Option Place) (none : List ℕ) → splits left ≡ ([], left) → length none ≡ 0 → Finding parcel kind p at left → Finding parcel kind p at none
   find_cut p none s e f =
       let n = none_headed none (omega arith) in
-      record { few = omega (arith, f.few); often = rw n (rw s at f.often); seen = rw n (rw s at f.seen) }
+      record { few = omega (arith, f.few); often = rw n (rw s at f.often); seen = rw n (rw s at f.seen); here = λ h. absurd (omega (arith, h, e)) }
 
   -- no whole record is left
-  pub found : (p : Option Place) → length left ≡ 0 → Finding parcel kind p left → MatchOption p (Missing parcel kind) (λ q. Placed parcel kind q)
+  pub found : (p : Option Place) → length left ≡ 0 → Finding parcel kind p at left → MatchOption p (Missing parcel kind) (λ q. Placed parcel kind q)
   unfolding how_often payload_of
   found None e f = let s = none_headed left (omega arith) in record { often = sym (rw s at f.often); payload = rw s at f.seen }
-  found (Some q) e f = let s = none_headed left (omega arith) in record { some = f.seen.0; often = omega (arith, rw s at f.often); payload = f.seen.1 }
+  found (Some q) e f = let s = none_headed left (omega arith) in record { some = f.seen.0; often = omega (arith, rw s at f.often); payload = f.seen.1; lies = f.seen.2 }

@@ -93,21 +93,23 @@ pub fn count(parcel: &[u8]) -> Result<usize, Refusal>
     Ok(n)
 }
 
-// How often a kind occurs, and the payload of the first such record.
+// How often a kind occurs, and the payload of the first such record: where in the parcel it starts, and its bytes.
 #[derive(Clone, Copy)]
 pub struct Place<'p> {
     pub often: usize,
+    pub start: usize,
     pub payload: &'p [u8],
 }
 
-// A place, with one more record of its kind seen.
-fn noted<'p>(place: Option<Place<'p>>, piece: Piece<'p>) -> Place<'p>
+// A place, with one more record of its kind seen, whose payload starts there.
+fn noted<'p>(place: Option<Place<'p>>, start: usize, piece: Piece<'p>) -> Place<'p>
     requires { often_in place < 18446744073709551615 }
-    ensures { result ≡ noted_of place.entry piece.entry }
+    ensures { result ≡ noted_of place.entry start piece.entry }
 {
     match place {
         None => Place {
             often: 1,
+            start,
             payload: piece.payload,
         },
         Some(first) => Place {
@@ -118,16 +120,22 @@ fn noted<'p>(place: Option<Place<'p>>, piece: Piece<'p>) -> Place<'p>
 }
 
 // The place of a kind among a parcel's whole records, if it has one.
-#[tactic(auto, using(crate::proofs::Walk::find_one, crate::proofs::Walk::find_cut, crate::proofs::Walk::found))]
 #[inline(always)]
 pub fn find(parcel: &[u8], kind: usize) -> Option<Place<'_>>
     ensures { MatchOption result (Missing parcel.now kind) (λ p. Placed parcel.now kind p) }
 {
     let mut place = None;
+    let mut at = 0;
     for piece in (Records { left: parcel }) {
         match piece {
-            Ok(piece) if piece.kind == kind => place = Some(noted(place, piece)),
-            _ => {}
+            Ok(piece) => {
+                let start = at + 6;
+                if piece.kind == kind {
+                    place = Some(noted(place, start, piece));
+                }
+                at = start + piece.payload.len();
+            }
+            Err(_) => {}
         }
     }
     place

@@ -12,7 +12,8 @@ use Rattle.rules.specs.Parcel.{records, is_whole, once_each, kinds_right, are_lo
 use Rattle.std.specs.Prelude.{Ok, eqb}
 use Rattle.parcel_refuse.specs.declared.Head.{Head}
 use Rattle.parcel_refuse.specs.declared.Payloads.{Payloads}
-use Rattle.parcel_refuse.specs.Surveys.{Held, head_of, Surveyed}
+use Rattle.parcel_refuse.specs.declared.Places.{Places}
+use Rattle.parcel_refuse.specs.Surveys.{Held, AllPlaced, head_of, Surveyed}
 use Rattle.parcel_refuse.proofs.Known.{first_is, kinds_are}
 
 module _ (parcel : List ℕ) where
@@ -45,8 +46,9 @@ module _ (parcel : List ℕ) where
     wrong_sizes e = lengths_are ∙ rw e
 
     -- what is told where nothing is refused
-    pub told_yes : 0 ≡ parcel_sizes_refusal parcel → Surveyed parcel (Ok (record { head = h; payloads = p }))
-    told_yes e = record { number = e; seen = record { width = rw (held.head, is); height = rw (held.head, is); ratio = rw (held.head, is); held = held } }
+    pub told_yes : (at : Places) → AllPlaced parcel p at → 0 ≡ parcel_sizes_refusal parcel → Surveyed parcel (Ok (record { head = h; payloads = p; places = at }))
+    told_yes at placed e =
+        record { number = e; seen = record { width = rw (held.head, is); height = rw (held.head, is); ratio = rw (held.head, is); held = held; placed = placed } }
 
   -- a head of another length
   pub short_head : (p : Payloads) → Held parcel p → (length p.head.now ≡ 6 → ⊥) → lengths_right (records parcel) ≡ false

@@ -2,10 +2,12 @@
 #![tactic(auto)]
 
 ghost use Rattle.std.specs.Prelude.{◌≡◌, true, false, ◌≤◌, length, MatchResult};
-ghost use Rattle.rules.specs.Parcel.{records, is_whole, once_each, payload_of, are_long};
+ghost use Rattle.rules.specs.Parcel.{records, is_whole, once_each, are_long};
 ghost use Rattle.rules.specs.declared.Refusal.TheVariants.{Kind};
-ghost use Rattle.parcel_refuse.specs.Surveys.{is_once, Held, head_of, Surveyed};
+ghost use Rattle.parcel_records.specs.Steps.{Placed};
+ghost use Rattle.parcel_refuse.specs.Surveys.{is_once, Held, AllPlaced, head_of, Surveyed};
 
+use parcel_records::Place;
 use rules::Refusal;
 
 // The numbers of a parcel's head.
@@ -27,41 +29,68 @@ pub struct Payloads<'p> {
     pub cells: &'p [u8],
 }
 
-// What a parcel tells before it is read: its head, and its payloads.
+// Where in the parcel each of them starts.
+#[derive(Clone, Copy)]
+pub struct Places {
+    pub head: usize,
+    pub gains: usize,
+    pub offsets: usize,
+    pub first: usize,
+    pub second: usize,
+    pub cells: usize,
+}
+
+// What a parcel tells before it is read: its head, its payloads, and their places.
 #[derive(Clone, Copy)]
 pub struct Contents<'p> {
     pub head: Head,
     pub payloads: Payloads<'p>,
+    pub places: Places,
 }
 
-// The payload of a kind that is not repeated or missing.
+// The place of a kind that is not repeated or missing.
 #[inline(always)]
-fn once(parcel: &[u8], kind: usize) -> Result<&[u8], Refusal>
+fn once(parcel: &[u8], kind: usize) -> Result<Place<'_>, Refusal>
     ensures { MatchResult result
-        (λ p. (is_once parcel.now kind ≡ true) × (payload_of kind (records parcel.now) ≡ p.now))
+        (λ p. (is_once parcel.now kind ≡ true) × Placed parcel.now kind p)
         (λ e. (is_once parcel.now kind ≡ false) × (e ≡ Kind)) }
 {
     match parcel_records::find(parcel, kind) {
-        Some(place) if place.often == 1 => Ok(place.payload),
+        Some(place) if place.often == 1 => Ok(place),
         _ => Err(Refusal::Kind),
     }
 }
 
-// The payloads of the six kinds.
+// The payloads of the six kinds, and their places.
 #[tactic(auto, unfolding(rules::specs::Forms::all, rules::specs::Forms::turns))]
-fn six_payloads(parcel: &[u8]) -> Result<Payloads<'_>, Refusal>
+fn six_payloads(parcel: &[u8]) -> Result<(Payloads<'_>, Places), Refusal>
     ensures { MatchResult result
-        (λ p. (once_each (records parcel.now) ≡ true) × Held parcel.now p)
+        (λ p. (once_each (records parcel.now) ≡ true) × Held parcel.now p.0 × AllPlaced parcel.now p.0 p.1)
         (λ e. (once_each (records parcel.now) ≡ false) × (e ≡ Kind)) }
 {
-    Ok(Payloads {
-        head: once(parcel, 1)?,
-        gains: once(parcel, 2)?,
-        offsets: once(parcel, 3)?,
-        first: once(parcel, 4)?,
-        second: once(parcel, 5)?,
-        cells: once(parcel, 6)?,
-    })
+    let head = once(parcel, 1)?;
+    let gains = once(parcel, 2)?;
+    let offsets = once(parcel, 3)?;
+    let first = once(parcel, 4)?;
+    let second = once(parcel, 5)?;
+    let cells = once(parcel, 6)?;
+    let payloads = Payloads {
+        head: head.payload,
+        gains: gains.payload,
+        offsets: offsets.payload,
+        first: first.payload,
+        second: second.payload,
+        cells: cells.payload,
+    };
+    let places = Places {
+        head: head.start,
+        gains: gains.start,
+        offsets: offsets.start,
+        first: first.start,
+        second: second.start,
+        cells: cells.start,
+    };
+    Ok((payloads, places))
 }
 
 // The numbers of a head.
@@ -101,13 +130,17 @@ fn six(parcel: &[u8]) -> Result<Contents<'_>, Refusal>
     ensures { Surveyed parcel.now result }
 {
     plane::ensure(parcel_records::two(parcel, 4) == 1, Refusal::Kind)?;
-    let payloads = six_payloads(parcel)?;
+    let (payloads, places) = six_payloads(parcel)?;
     plane::ensure(payloads.head.len() == 6, Refusal::Payload)?;
     let head = numbers(payloads.head);
     plane::ensure(plane::sizes(head.width, head.height), Refusal::Payload)?;
     let ratio = plane::ratioed(head.ratio, head.width, head.height);
     plane::ensure(ratio & long(parcel, payloads, head), Refusal::Payload)?;
-    Ok(Contents { head, payloads })
+    Ok(Contents {
+        head,
+        payloads,
+        places,
+    })
 }
 
 // What a parcel tells. One that has another number of records than six is refused before they are looked for by kind.

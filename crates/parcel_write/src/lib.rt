@@ -10,7 +10,7 @@ ghost use Rattle.table.specs.Put.{Put};
 ghost use Rattle.layer_lent.specs.Lent.{lay};
 ghost use Rattle.parcel_write.specs.Write.{WriteTold, write_by, Fitting};
 
-use layer_lent::Shape;
+use layer_lent::{Lent, Shape};
 use parcel_put::Run;
 use rules::Refusal;
 
@@ -28,11 +28,11 @@ fn exact(size: usize, shape: Shape) -> bool
 }
 
 // The tests of the writer, in the order of the table.
-pub fn refusal(parcel: &[u8], shape: Shape, numbers: [&[i16]; 3]) -> Result<(), Refusal>
+pub fn refusal<L: Lent>(parcel: &[u8], shape: Shape, layer: L) -> Result<(), Refusal>
     requires { shape.plane ≡ 0 }
-    ensures { numbered result ≡ parcel_write_refusal (write_by shape (slice numbers.entry) parcel.now) }
+    ensures { numbered result ≡ parcel_write_refusal (write_by shape (L.held layer) parcel.now) }
 {
-    layer_refuse::rows(shape, numbers, &[])?;
+    layer_refuse::rows(shape, layer, &[])?;
     plane::ensure(exact(parcel.len(), shape), Refusal::Length)
 }
 

@@ -61,7 +61,7 @@ fn lengths_of(sums: [&[f32]; 9]) -> [[usize; 3]; 3]
 }
 
 // The sums in the order of the parts, where the own part lies in this slot of 0, 1 and 2.
-// Kept: nine slices in one array, as fit is lent the sums of its parts.
+// Kept: (a) nine slices in one array, as fit is lent the sums of its parts.
 fn ordered<'s>(sums: [&'s [f32]; 9], slot: usize) -> [&'s [f32]; 9]
     ensures { result ≡ order_by sums.entry slot }
 {

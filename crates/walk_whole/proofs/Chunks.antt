@@ -3,10 +3,11 @@ use mathlib.Core.Path.{◌≡◌, refl, ◌∙◌}
 use mathlib.Core.List.{List, [], ◌∷◌, ◌++◌}
 use Prim.Native.Nat.{ℕ, ◌+◌, ◌-◌, ◌*◌, ◌≤◌, ◌<◌}
 use native.Mathlib.Omega.{arith}
-use lib.ListN.{length, drop, length-append, length-drop}
+use lib.ListN.{length, drop, length-append, length-take, length-drop}
 use lib.Seq.{take_all, take-append-le, drop-append-le}
 use Rattle.rules.specs.Forms.{Pair, Part, Slot, absent, part}
 use Rattle.rules.specs.Stats.{added, stats_sums}
+use Rattle.rules.specs.Walk.{pairs_in}
 use Rattle.calls.specs.Lent.{stats_call}
 use Rattle.walk_whole.specs.Whole.{chunk, summed, whole_part}
 
@@ -35,6 +36,10 @@ chunk_none xs c h = rw (none (drop (12 * c) xs) (length-drop (12 * c) xs ∙ gon
   where
     gone : (m n : ℕ) → m ≤ n → m - n ≡ 0
     gone m n h = omega arith
+
+-- how many pairs a chunk has
+pub chunk_long : (xs : List Pair) (c : ℕ) → length (chunk xs c) ≡ pairs_in (length xs) c
+chunk_long xs c = length-take 12 (drop (12 * c) xs) ∙ rw (length-drop (12 * c) xs)
 
 module _ (size : ℕ × ℕ) (ratio : ℕ) where
   -- a pair more is added last

@@ -4,14 +4,13 @@ use Rattle.std.proofs.lemmas.Result.{err_from_is_err_and}
 use Rattle.rules.specs.declared.Refusal.TheVariants.{Length}
 use Rattle.rules.specs.Domain.{parcel_length}
 use Rattle.rules.specs.Refusals.{◌unless◌, first_fitting, parcel_write_refusal}
-use Rattle.plane.specs.Slices.{slice}
 use Rattle.layer_refuse.proofs.Accepted.{accepted}
 use Rattle.laws.proofs.Answered.{last_row}
 use Rattle.parcel_write.proofs.refusal.Goals as goal
 
 pub returns-in_err-rows : goal.returns-in_err-rows
 unfolding parcel_write_refusal
-returns-in_err-rows c =
+returns-in_err-rows g c =
     let a = c.args in
     let s = a.shape in
     let right = eqb (length a.parcel.now) (parcel_length (s.width, s.height) s.ratio) in
@@ -20,14 +19,14 @@ returns-in_err-rows c =
 
 pub exact-requires : goal.exact-requires
 unfolding first_fitting
-exact-requires c =
-    let a = accepted c.args.shape (slice c.args.numbers) [] [] (c.in_ok-rows.ensures [] [] refl) in
+exact-requires g c =
+    let a = accepted c.args.shape (g.L.Lent.held c.args.layer) [] [] (c.in_ok-rows.ensures [] [] refl) in
     let f = a.sound.planned.formed in
     record { wide = f.wide.1; tall = f.tall.1 }
 
 pub returns : goal.returns
 unfolding parcel_write_refusal
-returns c =
+returns g c =
     let a = c.args in
     let s = a.shape in
     let right = eqb (length a.parcel.now) (parcel_length (s.width, s.height) s.ratio) in
