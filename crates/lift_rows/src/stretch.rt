@@ -1,5 +1,5 @@
 // The near cells of a row that touch, as stretches of its pixels.
-ghost use Rattle.std.specs.Prelude.{◌≡◌, ◌-◌, ◌<◌, ◌≤◌, MatchOption};
+ghost use Rattle.std.specs.Prelude.{◌≡◌, ◌-◌, ◌<◌, ◌≤◌, ⊤, MatchOption};
 ghost use Rattle.std.specs.Iterator.{at_most};
 ghost use Rattle.layer_lent.specs.Lent.{lay};
 ghost use Rattle.layer_lookup.specs.Side.{IsSide};
@@ -7,9 +7,9 @@ ghost use Rattle.lift_rows.specs.Stretches.{cells_of, column, First, Part, Near,
 
 use layer_lent::{Lent, Plan, Sheet};
 use lift_pixel::Over;
+use std::alloc::AllocError;
 
 // The pixels of a row from a column to another, all in near cells of a sheet.
-#[derive(Drop)]
 pub struct Stretch<W: Over> {
     pub over: W,
     pub y: usize,
@@ -17,6 +17,18 @@ pub struct Stretch<W: Over> {
     pub to: usize,
     pub ghost part: { Part (W.plan over) y from to },
     pub ghost near: { Near (lay (W.plan over).shape (W.held over)) (W.plan over).shape.plane y from to },
+}
+
+impl<W: Over> Copy for Stretch<W> {}
+
+impl<W: Over> Clone for Stretch<W> {
+    ghost is_clone = { λ a b. b ≡ a };
+
+    ghost is_infallible = { λ _. ⊤ };
+
+    fn clone(&self) -> Result<Self, AllocError> {
+        Ok(*self)
+    }
 }
 
 // The stretches of a row from left to right: those that begin at this column of cells or after it.
