@@ -3,7 +3,8 @@ ghost use Rattle.std.specs.Prelude.{◌≡◌, ◌-◌, ◌<◌, ◌≤◌, ⊤,
 ghost use Rattle.std.specs.Iterator.{at_most};
 ghost use Rattle.layer_lent.specs.Lent.{lay};
 ghost use Rattle.layer_lookup.specs.Side.{IsSide};
-ghost use Rattle.lift_rows.specs.Stretches.{cells_of, column, First, Part, Near, Far, Goes};
+ghost use Rattle.layer_cell.specs.Cells.{CellInside};
+ghost use Rattle.lift_rows.specs.Stretches.{near_cell, cells_of, column, First, Part, Near, Far, Goes};
 
 use layer_lent::{Lent, Plan, Sheet};
 use lift_pixel::Over;
@@ -62,13 +63,21 @@ fn cells(plan: Plan) -> usize
     layer_lookup::cell_of(plan.across - 1, plan.side) + 1
 }
 
+// Whether a cell is near.
+fn nearby<L: Lent>(sheet: Sheet<L>, x: usize, row: usize) -> bool
+    requires { CellInside sheet.plan x row }
+    ensures { result ≡ near_cell (lay sheet.plan.shape (L.held sheet.layer)) x row }
+{
+    layer_cell::near(layer_cell::number(sheet.plan, sheet.layer, x, row))
+}
+
 // The first column of cells, from one on, whose cell in this row of cells is near, or is far.
 // Kept: (d) `near` is what each cell is compared with, and no step hangs on it; two functions would differ in a `!`.
 fn seek<L: Lent>(sheet: Sheet<L>, row: usize, from: usize, near: bool) -> Option<usize>
     requires { row < sheet.plan.rows }
     ensures { First (lay sheet.plan.shape (L.held sheet.layer)) row near from (cells_of sheet.plan) result }
 {
-    (from..cells(sheet.plan)).find(|x| layer_cell::near(layer_cell::number(sheet, *x, row)) == near)
+    (from..cells(sheet.plan)).find(|x| nearby(sheet, *x, row) == near)
 }
 
 impl<W: Over> Iterator for Stretches<W> {
@@ -91,7 +100,7 @@ impl<W: Over> Iterator for Stretches<W> {
             over: self.over,
             y: self.y,
             from: plane::place(first, plan.side, 0),
-            to: plane::place(end, plan.side, 0).min(plan.across),
+            to: layer_cell::cell_end(plane::place(end - 1, plan.side, 0), plan.side, plan.across),
         })
     }
 }

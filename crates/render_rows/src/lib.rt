@@ -136,7 +136,8 @@ impl<L: Lent> Job<'_, '_, L> {
         requires cell { CellEnd piece.from self.now.frames.first.sheet.plan.side self.now.frames.first.sheet.plan.across piece.to }
         ensures { PieceDone self.now piece start.count output.old output.new result }
     {
-        let distance = layer_cell::distance(self.frames.first.sheet, piece.from, piece.y);
+        let sheet = self.frames.first.sheet;
+        let distance = layer_cell::distance(sheet.plan, sheet.layer, piece.from, piece.y);
         if render_choice::within(layer_cell::gap(distance), self.far) {
             self.run(output, start, distance, piece)
         } else {
@@ -157,7 +158,7 @@ impl<L: Lent> Job<'_, '_, L> {
                 y,
                 down,
                 from: x,
-                to: (x + plan.side).min(plan.across),
+                to: layer_cell::cell_end(x, plan.side, plan.across),
             };
             run = self.cell(output, run, piece);
         }
