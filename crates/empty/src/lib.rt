@@ -22,7 +22,7 @@ fn least<L: Lent>(sheet: Sheet<L>, y: usize, width: usize, from: usize, before: 
 {
     let mut least = before;
     for x in from..width {
-        least = least.min(layer_cell::number(sheet, x, y).cast_unsigned());
+        least = least.min(layer_cell::number(sheet.plan, sheet.layer, x, y).cast_unsigned());
     }
     least
 }

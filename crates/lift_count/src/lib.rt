@@ -15,7 +15,7 @@ pub fn writes<L: Lent>(sheet: Sheet<L>, x: usize, y: usize) -> bool
     requires { Inside sheet.plan x y }
     ensures { result ≡ layered (lay sheet.plan.shape (L.held sheet.layer)) sheet.plan.shape.plane x y }
 {
-    let near = layer_cell::near(layer_cell::distance(sheet, x, y));
+    let near = layer_cell::near(layer_cell::distance(sheet.plan, sheet.layer, x, y));
     let model = layer_texel::texel(sheet, x, y);
     near & !fit_model::plain(model)
 }

@@ -1,10 +1,11 @@
 -- The laws of a row that is gone through cell by cell. Assumes nothing.
-use mathlib.Core.Path.{◌≡◌, ap}
+use mathlib.Core.Path.{◌≡◌, ap, ◌∙◌}
 use mathlib.Core.Bool.{Bool, true, false, not}
 use mathlib.Core.Logic.{◌⊎◌, inl, inr}
 use mathlib.Core.List.{List}
-use Prim.Native.Nat.{ℕ, ◌+◌, ◌-◌, ◌*◌, ◌/◌, ◌≤◌, ◌<◌}
-use native.Mathlib.Nat.{eq-or-lt_of_le, mul-le-mul_right, le-div_iff_mul-le, div-lt_iff_lt-mul}
+use Prim.Native.Nat.{ℕ, ◌+◌, ◌-◌, ◌*◌, ◌/◌, ◌≤◌, ◌<◌, min}
+use native.Mathlib.Nat.{eq-or-lt_of_le, add-mul, mul-le-mul_right, le-div_iff_mul-le, div-lt_iff_lt-mul}
+use Rattle.std.proofs.lemmas.Nat.{div-mul-add}
 use native.Mathlib.Omega.{arith}
 use lib.ListN.{get_or}
 use Rattle.rules.specs.Forms.{Layer, Rule}
@@ -71,6 +72,15 @@ module _ (p : Plan) (held : Held) (h : Planned p) where
       let m = (le-div_iff_mul-le {k = p.side} {x = k} {y = p.across - 1} (omega (arith, h.small))).0 (omega arith) in
       omega arith
 
+  -- the cell before one ends where that one begins, or the plane ends
+  pub ends : (k x to : ℕ) → 1 ≤ k → x ≡ (k - 1) * p.side + 0 → to ≡ min (x / p.side * p.side + p.side) p.across → to ≡ column p k
+  ends k x to some is end =
+      let e : x / p.side ≡ k - 1 = ap (λ (n : ℕ). n / p.side) is ∙ div-mul-add (k - 1) p.side 0 (omega (arith, h.small)) in
+      let j : k - 1 + 1 ≡ k = omega arith in
+      let m = rw j at (add-mul (k - 1) 1 p.side) in
+      let f : (k - 1) * p.side + p.side ≡ k * p.side = omega (arith, m) in
+      end ∙ rw (e, f)
+
   pub all_columns : column p (cells_of p) ≡ p.across
   all_columns =
       let w = h.wide in
@@ -96,9 +106,15 @@ first_is l row near from to None h = h
 first_is l row near from to (Some k) h = record { ahead = h.0; within = h.1; is = h.2; before = h.3 }
 
 -- the near cells from the first one up to the far one after it, or to the end
+pub record Touching (l : Layer) (row to first e : ℕ) : Type 0 where
+  pub ahead : first < e
+  pub within : e ≤ to
+  pub near : Cells l row true first e
+  pub stops : e < to → Cells l row false e (e + 1)
+
 pub near_cells : (l : Layer) (row from to first e : ℕ) (r : Option ℕ) → FirstAt l row true from to first → First l row false (first + 1) to r → e ≡ unwrap_or r to
-    → (first < e) × (e ≤ to) × Cells l row true first e
-near_cells l row from to first e r found next is = go r next is
+    → Touching l row to first e
+near_cells l row from to first e r found next is = rw is (go r next)
   where
     joined : (n : ℕ) → Cells l row true (first + 1) n → Cells l row true first n
     joined n more k low high = pick (eq-or-lt_of_le {n = first} {m = k} low)
@@ -107,9 +123,23 @@ near_cells l row from to first e r found next is = go r next is
         pick (inl same) = rw same at found.is
         pick (inr less) = more k (omega arith) high
 
-    go : (o : Option ℕ) → First l row false (first + 1) to o → e ≡ unwrap_or o to → (first < e) × (e ≤ to) × Cells l row true first e
-    go None none end = rw end (found.within, omega arith, joined to none)
-    go (Some i) far end = rw end (omega (arith, far.ahead), omega (arith, far.within), joined i far.before)
+    go : (o : Option ℕ) → First l row false (first + 1) to o → Touching l row to first (unwrap_or o to)
+    go None none = record { ahead = found.within; within = omega arith; near = joined to none; stops = λ less. absurd (omega arith) }
+    go (Some i) far =
+        record {
+          ahead = omega (arith, far.ahead);
+          within = omega (arith, far.within);
+          near = joined i far.before;
+          stops = λ less k low high. let same : i ≡ k = omega arith in rw same at far.is;
+        }
+
+-- and the pixel behind them is far
+pub stops : (p : Plan) (held : Held) → Planned p → (y first e to : ℕ) → Touching (lay p.shape held) (y / p.side) (cells_of p) first e → to ≡ column p e
+    → to < p.across → (gap (lay p.shape held) p.shape.plane to y ≼ 0·0) ≡ false
+stops p held h y first e to run is less =
+    let some : 0 < p.side = omega (arith, h.small) in
+    let inside = (le-div_iff_mul-le {k = p.side} {x = e} {y = p.across - 1} some).1 (omega (arith, is, less)) in
+    alike p held h false y e (e + 1) (run.stops (omega (arith, inside))) to (omega (arith, is)) (omega (arith, is, less, add-mul e 1 p.side, h.small))
 
 -- ---- the rows of an output
 

@@ -47,8 +47,11 @@ cells_of p = (p.across - 1) / p.side + 1
 abbrev pub column : Plan → (cell : ℕ) → ℕ
 column p cell = min (cell * p.side) p.across
 
--- the next stretch, from this column of cells on: far pixels are before it, and it ends where the next is looked for
+-- the next stretch, from this column of cells on: far pixels are before it, and it ends where the next is looked for, at
+-- the end of the row or at a far pixel
 pub record Goes (p : Plan) (held : Held) (y cell from to next : ℕ) : Type 0 where
   pub ahead : column p cell ≤ from
+  pub some : from < to
   pub far : Far (lay p.shape held) p.shape.plane y (column p cell) from
   pub ends : to ≡ column p next
+  pub stops : to < p.across → (gap (lay p.shape held) p.shape.plane to y ≼ 0·0) ≡ false

@@ -1,15 +1,16 @@
 // The near cells of a row that touch, as stretches of its pixels.
-ghost use Rattle.std.specs.Prelude.{◌≡◌, ◌-◌, ◌<◌, ◌≤◌, MatchOption};
+ghost use Rattle.std.specs.Prelude.{◌≡◌, ◌-◌, ◌<◌, ◌≤◌, ⊤, MatchOption};
 ghost use Rattle.std.specs.Iterator.{at_most};
 ghost use Rattle.layer_lent.specs.Lent.{lay};
 ghost use Rattle.layer_lookup.specs.Side.{IsSide};
-ghost use Rattle.lift_rows.specs.Stretches.{cells_of, column, First, Part, Near, Far, Goes};
+ghost use Rattle.layer_cell.specs.Cells.{CellInside};
+ghost use Rattle.lift_rows.specs.Stretches.{near_cell, cells_of, column, First, Part, Near, Far, Goes};
 
 use layer_lent::{Lent, Plan, Sheet};
 use lift_pixel::Over;
+use std::alloc::AllocError;
 
 // The pixels of a row from a column to another, all in near cells of a sheet.
-#[derive(Drop)]
 pub struct Stretch<W: Over> {
     pub over: W,
     pub y: usize,
@@ -17,6 +18,18 @@ pub struct Stretch<W: Over> {
     pub to: usize,
     pub ghost part: { Part (W.plan over) y from to },
     pub ghost near: { Near (lay (W.plan over).shape (W.held over)) (W.plan over).shape.plane y from to },
+}
+
+impl<W: Over> Copy for Stretch<W> {}
+
+impl<W: Over> Clone for Stretch<W> {
+    ghost is_clone = { λ a b. b ≡ a };
+
+    ghost is_infallible = { λ _. ⊤ };
+
+    fn clone(&self) -> Result<Self, AllocError> {
+        Ok(*self)
+    }
 }
 
 // The stretches of a row from left to right: those that begin at this column of cells or after it.
@@ -50,13 +63,21 @@ fn cells(plan: Plan) -> usize
     layer_lookup::cell_of(plan.across - 1, plan.side) + 1
 }
 
+// Whether a cell is near.
+fn nearby<L: Lent>(sheet: Sheet<L>, x: usize, row: usize) -> bool
+    requires { CellInside sheet.plan x row }
+    ensures { result ≡ near_cell (lay sheet.plan.shape (L.held sheet.layer)) x row }
+{
+    layer_cell::near(layer_cell::number(sheet.plan, sheet.layer, x, row))
+}
+
 // The first column of cells, from one on, whose cell in this row of cells is near, or is far.
 // Kept: (d) `near` is what each cell is compared with, and no step hangs on it; two functions would differ in a `!`.
 fn seek<L: Lent>(sheet: Sheet<L>, row: usize, from: usize, near: bool) -> Option<usize>
     requires { row < sheet.plan.rows }
     ensures { First (lay sheet.plan.shape (L.held sheet.layer)) row near from (cells_of sheet.plan) result }
 {
-    (from..cells(sheet.plan)).find(|x| layer_cell::near(layer_cell::number(sheet, *x, row)) == near)
+    (from..cells(sheet.plan)).find(|x| nearby(sheet, *x, row) == near)
 }
 
 impl<W: Over> Iterator for Stretches<W> {
@@ -79,7 +100,7 @@ impl<W: Over> Iterator for Stretches<W> {
             over: self.over,
             y: self.y,
             from: plane::place(first, plan.side, 0),
-            to: plane::place(end, plan.side, 0).min(plan.across),
+            to: layer_cell::cell_end(plane::place(end - 1, plan.side, 0), plan.side, plan.across),
         })
     }
 }

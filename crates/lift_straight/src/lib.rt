@@ -24,7 +24,7 @@ pub struct Unpeel<'f, L: Lent> {
 impl<L: Lent> Copy for Unpeel<'_, L> {}
 
 impl<L: Lent> Clone for Unpeel<'_, L> {
-    ghost is_clone = { λ a b. b.first.now ≡ a.first.now };
+    ghost is_clone = { λ a b. (b.sheet ≡ a.sheet) × (b.first.now ≡ a.first.now) × (b.second.now ≡ a.second.now) };
 
     ghost is_infallible = { λ _. ⊤ };
 

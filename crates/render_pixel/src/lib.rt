@@ -1,7 +1,7 @@
 // What render sees at a pixel: each frame where the pixel moves, and both at the pixel itself.
 #![tactic(auto)]
 
-ghost use Rattle.std.specs.Prelude.{◌≡◌, ℕ, ◌≤◌, get_or};
+ghost use Rattle.std.specs.Prelude.{◌≡◌, ℕ, ◌≤◌, ⊤, get_or};
 ghost use Rattle.rules.specs.Literals.{0·0};
 ghost use Rattle.rules.specs.Float.{◌≼◌};
 ghost use Rattle.rules.specs.Reading.{gap};
@@ -12,6 +12,7 @@ ghost use Rattle.render_pixel.specs.Shown.{base_by, seen_by, byte_by};
 
 use layer_lent::{Lent, Seen};
 use rules::{Model, Moved, Steps};
+use std::alloc::AllocError;
 
 // A pixel of the plane.
 #[derive(Clone, Copy)]
@@ -21,7 +22,6 @@ pub struct Spot {
 }
 
 // A plane of each of two frames, seen over one sheet.
-#[derive(Drop)]
 pub struct Frames<'f, L: Lent> {
     pub first: Seen<'f, L>,
     pub second: Seen<'f, L>,
@@ -29,6 +29,30 @@ pub struct Frames<'f, L: Lent> {
     pub ghost plan: { second.sheet.plan ≡ first.sheet.plan },
     pub ghost first_small: { (k : ℕ) → get_or first.raw.now k 0 ≤ 255 },
     pub ghost second_small: { (k : ℕ) → get_or second.raw.now k 0 ≤ 255 },
+}
+
+impl<L: Lent> Copy for Frames<'_, L> {}
+
+impl<L: Lent> Clone for Frames<'_, L> {
+    ghost is_clone = { λ a b. (b.first.sheet ≡ a.first.sheet) × (b.first.raw.now ≡ a.first.raw.now) × (b.first.pitch ≡ a.first.pitch)
+        × (b.second.sheet ≡ a.second.sheet) × (b.second.raw.now ≡ a.second.raw.now) × (b.second.pitch ≡ a.second.pitch) };
+
+    ghost is_infallible = { λ _. ⊤ };
+
+    fn clone(&self) -> Result<Self, AllocError> {
+        Ok(Frames {
+            first: Seen {
+                sheet: self.first.sheet,
+                raw: self.first.raw,
+                pitch: self.first.pitch,
+            },
+            second: Seen {
+                sheet: self.second.sheet,
+                raw: self.second.raw,
+                pitch: self.second.pitch,
+            },
+        })
+    }
 }
 
 // What a frame shows at a pixel that moves. The model and the sample there are taken once.

@@ -1,9 +1,8 @@
 -- What is done to a pixel by its gap and its steps is what the rule says. Assumes nothing.
 use mathlib.Core.Path.{◌≡◌, sym, ap, ◌∙◌}
 use mathlib.Core.Bool.{Bool, true, false}
-use Prim.Native.Nat.{ℕ, ◌+◌, ◌-◌, ◌*◌, ◌/◌, ◌≤◌, ◌<◌, min}
+use Prim.Native.Nat.{ℕ, ◌+◌, ◌*◌, ◌/◌, ◌≤◌, ◌<◌}
 use native.Mathlib.Nat.{add-mul, add-div_right}
-use Rattle.std.proofs.lemmas.Nat.{div-mul-add}
 use native.Mathlib.Omega.{arith}
 use lib.IntN.{ℤ}
 use lib.Ieee.{Float}
@@ -88,17 +87,6 @@ pub cell_one : (p : Plan) → Planned p → (held : Held) (y from to : ℕ) (d :
 unfolding distance
 cell_one p h held y from to d cell is k low high = rw (is, rw h.is at (cell.same k low high))
 
--- a cell that begins at column x: its end, or the plane's, and where the next one begins
-module _ (side x : ℕ) (some : 0 < side) (begins : x / side * side ≡ x) where
-  pub cell_ends : (size : ℕ) → x < size → CellEnd x side size (min (x + side) size)
-  cell_ends size inside =
-      record {
-        ahead = omega arith;
-        within = omega arith;
-        same = λ j low high.
-            let e : j ≡ x / side * side + (j - x) = omega (arith, begins) in
-            ap (λ (k : ℕ). k / side) e ∙ div-mul-add (x / side) side (j - x) (omega arith);
-      }
-
-  pub next_begins : (x + side) / side * side ≡ x + side
-  next_begins = rw (add-div_right x some) (omega (arith, add-mul (x / side) 1 side, begins))
+-- where the cell after one that begins at column x begins
+pub next_begins : (side x : ℕ) → 0 < side → x / side * side ≡ x → (x + side) / side * side ≡ x + side
+next_begins side x some begins = rw (add-div_right x some) (omega (arith, add-mul (x / side) 1 side, begins))

@@ -1,17 +1,17 @@
 // The rows of a frame made between two others, with the layer laid on: row by row, in a row cell by cell.
 #![tactic(auto)]
 
-ghost use Rattle.std.specs.Prelude.{◌≡◌};
+ghost use Rattle.std.specs.Prelude.{◌≡◌, ⊤};
 ghost use Rattle.rules.specs.Render.{far as far_of};
 ghost use Rattle.motion.specs.Moves.{motion_of};
 
-use layer_lent::Lent;
+use layer_lent::{Lent, Seen};
 use motion::{Carried, Motion};
 use render_pixel::{Frames, Spot};
 use rules::{Steps, Taps};
+use std::alloc::AllocError;
 
 // A call that is not refused: its frames over their sheet, the motion between them, and what follows from it.
-#[derive(Drop)]
 pub struct Job<'f, 'm, L: Lent> {
     pub frames: Frames<'f, L>,
     pub motion: Motion<'m>,
@@ -19,6 +19,38 @@ pub struct Job<'f, 'm, L: Lent> {
     pub far: f32,
     pub ghost span: { motion.lattice.ratio ≡ frames.first.sheet.plan.span },
     pub ghost far_is: { far ≡ far_of (motion_of motion.fields motion.lattice.grid) },
+}
+
+impl<L: Lent> Copy for Job<'_, '_, L> {}
+
+impl<L: Lent> Clone for Job<'_, '_, L> {
+    ghost is_clone = { λ a b. (b.frames.first.sheet ≡ a.frames.first.sheet) × (b.frames.first.raw.now ≡ a.frames.first.raw.now)
+        × (b.frames.first.pitch ≡ a.frames.first.pitch) × (b.frames.second.sheet ≡ a.frames.second.sheet)
+        × (b.frames.second.raw.now ≡ a.frames.second.raw.now) × (b.frames.second.pitch ≡ a.frames.second.pitch)
+        × (b.motion ≡ a.motion) × (b.algo ≡ a.algo) × (b.far ≡ a.far) };
+
+    ghost is_infallible = { λ _. ⊤ };
+
+    fn clone(&self) -> Result<Self, AllocError> {
+        let frames = &self.frames;
+        Ok(Job {
+            frames: Frames {
+                first: Seen {
+                    sheet: frames.first.sheet,
+                    raw: frames.first.raw,
+                    pitch: frames.first.pitch,
+                },
+                second: Seen {
+                    sheet: frames.second.sheet,
+                    raw: frames.second.raw,
+                    pitch: frames.second.pitch,
+                },
+            },
+            motion: self.motion,
+            algo: self.algo,
+            far: self.far,
+        })
+    }
 }
 
 // What is carried along a row: the count, and the columns of the last pixel's motion.
@@ -104,7 +136,8 @@ impl<L: Lent> Job<'_, '_, L> {
         requires cell { CellEnd piece.from self.now.frames.first.sheet.plan.side self.now.frames.first.sheet.plan.across piece.to }
         ensures { PieceDone self.now piece start.count output.old output.new result }
     {
-        let distance = layer_cell::distance(self.frames.first.sheet, piece.from, piece.y);
+        let sheet = self.frames.first.sheet;
+        let distance = layer_cell::distance(sheet.plan, sheet.layer, piece.from, piece.y);
         if render_choice::within(layer_cell::gap(distance), self.far) {
             self.run(output, start, distance, piece)
         } else {
@@ -125,7 +158,7 @@ impl<L: Lent> Job<'_, '_, L> {
                 y,
                 down,
                 from: x,
-                to: (x + plan.side).min(plan.across),
+                to: layer_cell::cell_end(x, plan.side, plan.across),
             };
             run = self.cell(output, run, piece);
         }

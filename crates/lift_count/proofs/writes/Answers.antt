@@ -4,6 +4,11 @@ use Rattle.laws.proofs.Signed.{back}
 use Rattle.lift_count.proofs.Counted.{layered_is}
 use Rattle.lift_count.proofs.writes.Goals as goal
 
+pub distance-requires : goal.distance-requires
+distance-requires g c =
+    let s = c.args.sheet.sound in
+    record { planned = s.planned; long = s.second_long; inside = c.requires }
+
 pub returns : goal.returns
 returns g c =
     let d = c.distance in

@@ -6,6 +6,12 @@ use Rattle.lift_rows.proofs.Cells.{run_skip}
 use Rattle.render_rows.proofs.Changes.{far_cell, cell_one}
 use Rattle.render_rows.proofs.Job.cell.Goals as goal
 
+pub distance-distance-requires-clause-planned : goal.distance-distance-requires-clause-planned
+distance-distance-requires-clause-planned g c = c.args.self.now.frames.first.sheet.sound.planned
+
+pub distance-distance-requires-clause-long : goal.distance-distance-requires-clause-long
+distance-distance-requires-clause-long g c = c.args.self.now.frames.first.sheet.sound.second_long
+
 pub run-requires : goal.run-requires
 run-requires g c =
     let d = c.distance-distance.result in
