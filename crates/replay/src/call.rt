@@ -1,5 +1,5 @@
 // The calls that the list has cases of.
-use crate::case::Case;
+use crate::case::{Case, Rooms};
 use crate::cases::*;
 use crate::check::Check;
 
@@ -60,21 +60,21 @@ impl Call {
     }
 
     // Runs a case of it.
-    pub fn run<'a>(self, case: Case<'a>) -> Check<'a> {
+    pub fn run<'a>(self, case: Case<'a>, rooms: &mut Rooms) -> Check<'a> {
         match self {
-            Call::Distances => of_distances::run(case),
-            Call::Mask => of_mask::run(case),
-            Call::Apply => of_apply::run(case),
-            Call::Hold => of_hold::run(case),
-            Call::Peel => of_peel::run(case),
-            Call::Unpeel => of_unpeel::run(case),
-            Call::PeelNumbers => of_peel_numbers::run(case),
-            Call::UnpeelNumbers => of_unpeel_numbers::run(case),
-            Call::Empty => of_empty::run(case),
-            Call::Stats => of_stats::run(case),
-            Call::Assemble => of_assemble::run(case),
-            Call::Fit => of_fit::run(case),
-            Call::Render => of_render::run(case),
+            Call::Distances => of_distances::run(case, rooms),
+            Call::Mask => of_mask::run(case, rooms),
+            Call::Apply => of_apply::run(case, rooms),
+            Call::Hold => of_hold::run(case, rooms),
+            Call::Peel => of_peel::run(case, rooms),
+            Call::Unpeel => of_unpeel::run(case, rooms),
+            Call::PeelNumbers => of_peel_numbers::run(case, rooms),
+            Call::UnpeelNumbers => of_unpeel_numbers::run(case, rooms),
+            Call::Empty => of_empty::run(case, rooms),
+            Call::Stats => of_stats::run(case, rooms),
+            Call::Assemble => of_assemble::run(case, rooms),
+            Call::Fit => of_fit::run(case, rooms),
+            Call::Render => of_render::run(case, rooms),
         }
     }
 }

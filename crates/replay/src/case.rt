@@ -1,8 +1,45 @@
 // A case of the stored list: what its call takes. Its numbers and its slices are counted from 0.
-use crate::stored::Stored;
+use crate::stored::{Stored, rest};
 
 // Elements that a slice has room for.
 pub const ROOM: usize = 2048;
+
+// Room for a slice of each plane.
+pub type Planes<S> = ([S; ROOM], [S; ROOM], [S; ROOM]);
+
+// Room for the slices that are copied, for as many of a type as a call takes. All cases share it, since clearing it for
+// each would make the program a fifth slower. What a case left in it no other sees: a slice is lent as far as it was
+// loaded.
+#[derive(Drop)]
+pub struct Rooms {
+    pub bytes: ([u8; ROOM], [u8; ROOM]),
+    pub numbers: Planes<i16>,
+    pub previous: Planes<f32>,
+    pub own: Planes<f32>,
+    pub next: Planes<f32>,
+    pub models: [f32; ROOM],
+    pub motion: ([u16; ROOM], [u16; ROOM], [u16; ROOM], [u16; ROOM]),
+}
+
+impl Rooms {
+    // Cleared.
+    pub fn new() -> Rooms {
+        Rooms {
+            bytes: ([0; ROOM], [0; ROOM]),
+            numbers: planes(0),
+            previous: planes(0.0),
+            own: planes(0.0),
+            next: planes(0.0),
+            models: [0.0; ROOM],
+            motion: ([0; ROOM], [0; ROOM], [0; ROOM], [0; ROOM]),
+        }
+    }
+}
+
+// The planes' rooms, filled with one value.
+fn planes<S: Copy>(value: S) -> Planes<S> {
+    ([value; ROOM], [value; ROOM], [value; ROOM])
+}
 
 // The list, and the place of a case in it. A place may be past the list's end.
 #[derive(Clone, Copy)]
@@ -96,9 +133,10 @@ impl<'a> Case<'a> {
         let (n, width, first) = self.elements(k).unwrap_or((0, 0, 0));
         let n = if width == S::WIDTH { n } else { 0 };
         let n = n.min(room.len());
+        let rest = rest(self.list, first);
         let lent = &mut room[..n];
         for (k, number) in lent.iter_mut().enumerate() {
-            *number = self.read(first.saturating_add(k.saturating_mul(S::WIDTH)));
+            *number = S::nth(rest, k);
         }
         lent
     }

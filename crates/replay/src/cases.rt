@@ -1,10 +1,8 @@
-// Slices of a case, each copied into an array of its own, that a call may write or that hold other numbers than bytes.
+// Slices of a case that a call may write or that hold other numbers than bytes, each copied into a room of its own.
 macro_rules! load {
-    ($case:ident, $zero:literal, $($k:literal => $name:ident),*) => {
-        $(
-            let mut $name = [$zero; ROOM];
-            let $name = $case.load($k, &mut $name);
-        )*
+    ($case:ident, $rooms:expr, $($k:literal => $name:ident),*) => {
+        let ($($name,)* ..) = &mut $rooms;
+        $(let $name = $case.load($k, $name);)*
     };
 }
 

@@ -1,6 +1,6 @@
 // What a case of the stored list has as right, compared with what a call left.
 use crate::case::Case;
-use crate::stored::Stored;
+use crate::stored::{Stored, rest};
 
 // A comparison: where what comes next stands, if it can be read, and whether all was right so far.
 #[derive(Clone, Copy)]
@@ -28,25 +28,24 @@ impl<'a> Check<'a> {
             next: case.slice(count),
             same: counted,
         }
-        .number(ours)
-    }
-
-    // Compares one number.
-    fn number<S: Stored>(self, ours: S) -> Check<'a> {
-        let Some(at) = self.next else {
-            return self;
-        };
-        Check {
-            next: Some(at.saturating_add(S::WIDTH)),
-            same: self.same && ours.same(S::read(self.list, at)),
-            ..self
-        }
+        .slice(&[ours])
     }
 
     // Compares a slice that the call may write.
     pub fn slice<S: Stored>(self, ours: &[S]) -> Check<'a> {
-        ours.iter()
-            .fold(self, |check, number| check.number(*number))
+        let Some(at) = self.next else {
+            return self;
+        };
+        let rest = rest(self.list, at);
+        let same = ours
+            .iter()
+            .enumerate()
+            .all(|(k, number)| number.same(S::nth(rest, k)));
+        Check {
+            next: Some(at.saturating_add(ours.len().saturating_mul(S::WIDTH))),
+            same: self.same && same,
+            ..self
+        }
     }
 
     // The comparison after slices that are free where the answer's number is 0.

@@ -1,10 +1,24 @@
 // A number as the stored list has it, in little-endian bytes. host/compare/src/check/stored.rs says how the list is
 // laid out.
 
+// The list from a place on; nothing of it where the place is behind its end.
+pub fn rest(list: &[u8], at: usize) -> &[u8] {
+    list.get(at..).unwrap_or(&[])
+}
+
 // As many bytes from a place as are asked for; what is read past the list's end is 0.
 fn taken<const N: usize>(list: &[u8], at: usize) -> [u8; N] {
+    let rest = rest(list, at);
+    match rest.get(..N).map(<[u8; N]>::try_from) {
+        Some(Ok(bytes)) => bytes,
+        _ => padded(rest),
+    }
+}
+
+// The last bytes of the list, fewer than are asked for, and 0 behind them. A copy of so many bytes as there are is a
+// call of memcpy, which each number of the list would pay for.
+fn padded<const N: usize>(rest: &[u8]) -> [u8; N] {
     let mut bytes = [0; N];
-    let rest = list.get(at..).unwrap_or(&[]);
     let n = rest.len().min(N);
     bytes[..n].copy_from_slice(&rest[..n]);
     bytes
@@ -19,6 +33,11 @@ pub trait Stored: Copy + Drop + PartialEq {
 
     // The one that stands at a place.
     fn read(list: &[u8], at: usize) -> Self;
+
+    // The number k of a run of them, counted from 0.
+    fn nth(run: &[u8], k: usize) -> Self {
+        Self::read(run, k.saturating_mul(Self::WIDTH))
+    }
 
     // Whether it is right.
     fn same(self, right: Self) -> bool {

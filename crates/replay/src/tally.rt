@@ -1,6 +1,6 @@
 // The cases of the list, one after another, counted by their calls, and the lines that say so.
 use crate::call::Call;
-use crate::case::Case;
+use crate::case::{Case, Rooms};
 use crate::check::Check;
 use std::io;
 
@@ -56,13 +56,14 @@ pub fn of(list: &[u8]) -> Tally {
         calls: [Count::default(); CALLS],
         all: Count::default(),
     };
+    let mut rooms = Rooms::new();
     let mut at = 0;
     // Kept: (d) only a case that is run says where the next one begins: no range or iterator has the places.
     while at < list.len() {
         let case = Case { list, at };
         let id = case.call() as usize;
         let check = match Call::ALL.get(id) {
-            Some(call) => call.run(case),
+            Some(call) => call.run(case, &mut rooms),
             None => Check::unread(case),
         };
         if let Some(count) = tally.calls.get_mut(id) {

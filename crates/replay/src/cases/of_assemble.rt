@@ -1,11 +1,11 @@
 // The cases of assemble.
-use crate::case::{Case, ROOM};
+use crate::case::{Case, Rooms};
 use crate::check::Check;
 
 // Runs one and compares what it answers and leaves.
-pub fn run<'a>(case: Case<'a>) -> Check<'a> {
-    load!(case, 0.0f32, 0 => models);
-    load!(case, 0i16, 2 => luma, 3 => chroma1, 4 => chroma2);
+pub fn run<'a>(case: Case<'a>, rooms: &mut Rooms) -> Check<'a> {
+    let models = case.load(0, &mut rooms.models);
+    load!(case, rooms.numbers, 2 => luma, 3 => chroma1, 4 => chroma2);
     let ours = host::safeteal_assemble(
         case.size(0),
         case.size(1),

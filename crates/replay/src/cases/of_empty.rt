@@ -1,10 +1,10 @@
 // The cases of empty.
-use crate::case::{Case, ROOM};
+use crate::case::{Case, Rooms};
 use crate::check::Check;
 
 // Runs one and compares what it answers and leaves.
-pub fn run<'a>(case: Case<'a>) -> Check<'a> {
-    load!(case, 0i16, 0 => luma, 1 => chroma1, 2 => chroma2);
+pub fn run<'a>(case: Case<'a>, rooms: &mut Rooms) -> Check<'a> {
+    load!(case, rooms.numbers, 0 => luma, 1 => chroma1, 2 => chroma2);
     let ours = host::safeteal_empty(
         luma,
         chroma1,

@@ -1,15 +1,15 @@
 // The cases of fit.
-use crate::case::{Case, ROOM};
+use crate::case::{Case, Rooms};
 use crate::check::Check;
 
 // Runs one and compares what it answers and leaves.
-pub fn run<'a>(case: Case<'a>) -> Check<'a> {
-    load!(case, 0.0f32, 0 => previous_luma, 1 => previous_chroma1, 2 => previous_chroma2);
-    load!(case, 0.0f32, 3 => own_luma, 4 => own_chroma1, 5 => own_chroma2);
-    load!(case, 0.0f32, 6 => next_luma, 7 => next_chroma1, 8 => next_chroma2);
-    load!(case, 0.0f32, 9 => models);
-    load!(case, 0u8, 10 => kept, 11 => cover);
-    load!(case, 0i16, 12 => luma, 13 => chroma1, 14 => chroma2);
+pub fn run<'a>(case: Case<'a>, rooms: &mut Rooms) -> Check<'a> {
+    load!(case, rooms.previous, 0 => previous_luma, 1 => previous_chroma1, 2 => previous_chroma2);
+    load!(case, rooms.own, 3 => own_luma, 4 => own_chroma1, 5 => own_chroma2);
+    load!(case, rooms.next, 6 => next_luma, 7 => next_chroma1, 8 => next_chroma2);
+    let models = case.load(9, &mut rooms.models);
+    load!(case, rooms.bytes, 10 => kept, 11 => cover);
+    load!(case, rooms.numbers, 12 => luma, 13 => chroma1, 14 => chroma2);
     let ours = host::safeteal_fit(
         previous_luma,
         previous_chroma1,

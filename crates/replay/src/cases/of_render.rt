@@ -1,12 +1,12 @@
 // The cases of render.
-use crate::case::{Case, ROOM};
+use crate::case::{Case, Rooms};
 use crate::check::Check;
 
 // Runs one and compares what it answers and leaves.
-pub fn run<'a>(case: Case<'a>) -> Check<'a> {
-    load!(case, 0i16, 0 => luma, 1 => chroma1, 2 => chroma2);
-    load!(case, 0u8, 3 => output);
-    load!(case, 0u16, 6 => forward_x, 7 => forward_y, 8 => backward_x, 9 => backward_y);
+pub fn run<'a>(case: Case<'a>, rooms: &mut Rooms) -> Check<'a> {
+    load!(case, rooms.numbers, 0 => luma, 1 => chroma1, 2 => chroma2);
+    load!(case, rooms.bytes, 3 => output);
+    load!(case, rooms.motion, 6 => forward_x, 7 => forward_y, 8 => backward_x, 9 => backward_y);
     let ours = host::safeteal_render(
         luma,
         chroma1,

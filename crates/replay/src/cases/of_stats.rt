@@ -1,11 +1,11 @@
 // The cases of stats.
-use crate::case::{Case, ROOM};
+use crate::case::{Case, Rooms};
 use crate::check::Check;
 
 // Runs one and compares what it answers and leaves.
-pub fn run<'a>(case: Case<'a>) -> Check<'a> {
-    load!(case, 0.0f32, 0 => luma, 1 => chroma1, 2 => chroma2);
-    load!(case, 0u16, 9 => forward_x, 10 => forward_y, 11 => backward_x, 12 => backward_y);
+pub fn run<'a>(case: Case<'a>, rooms: &mut Rooms) -> Check<'a> {
+    load!(case, rooms.own, 0 => luma, 1 => chroma1, 2 => chroma2);
+    load!(case, rooms.motion, 9 => forward_x, 10 => forward_y, 11 => backward_x, 12 => backward_y);
     let ours = host::safeteal_stats(
         luma,
         chroma1,

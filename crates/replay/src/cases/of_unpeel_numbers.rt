@@ -1,11 +1,11 @@
 // The cases of unpeel_numbers.
-use crate::case::{Case, ROOM};
+use crate::case::{Case, Rooms};
 use crate::check::Check;
 
 // Runs one and compares what it answers and leaves.
-pub fn run<'a>(case: Case<'a>) -> Check<'a> {
-    load!(case, 0i16, 0 => luma, 1 => chroma1, 2 => chroma2);
-    load!(case, 0u8, 3 => output);
+pub fn run<'a>(case: Case<'a>, rooms: &mut Rooms) -> Check<'a> {
+    load!(case, rooms.numbers, 0 => luma, 1 => chroma1, 2 => chroma2);
+    load!(case, rooms.bytes, 3 => output);
     let ours = host::safeteal_unpeel_numbers(
         luma,
         chroma1,
